@@ -1,9 +1,8 @@
 -- Clocks follow a log whose calls a memory permits.
-use Rattle.std.proofs.Common.{◌≡◌, ℕ, List, [], ◌∷◌, ◌++◌, sym, ap, subst, ◌∙◌, arith}
+use Rattle.std.proofs.Common.{◌≡◌, List, [], ◌∷◌, ◌++◌, subst, ◌∙◌, arith}
 use Rattle.event_core.specs.declared.bounds.Limits.{Limits}
 use Rattle.event_core.specs.declared.events.Event.{Event}
-use Rattle.event_core.specs.declared.events.Call.{Call}
-use Rattle.event_core.specs.Refusal.{WellFormed, event_of, value_of}
+use Rattle.event_core.specs.Refusal.{WellFormed}
 use Rattle.traced_mem.specs.Tables.{MemoryTables}
 use Rattle.traced_mem.specs.Standing.{StandsFor as MemoryStandsFor}
 use Rattle.wcp_clocks.specs.Parts.{Parts}
@@ -41,39 +40,19 @@ no_events m p memory memory_limits clocks none width clock_limits = record {
   clock_limits = clock_limits;
 }
 
--- the event of the call
-is_event : (log : List Event) (c : Call) (v : ℕ) (e : Event)
-    → e ≡ record { thread = c.thread; op = c.op; site = c.site; value = v } → v ≡ value_of log c.op c.arg
-    → e ≡ event_of log c
-is_event log c v e is value =
-    is ∙ ap (λ (n : ℕ). let f : Event = record { thread = c.thread; op = c.op; site = c.site; value = n } in
-    f)
-    value
-
 -- the memory after the next event of the log
 pub record IsNext (log : List Event) (e : Event) (m : MemoryTables) : Type 0 where
   pub stands : MemoryStandsFor (log ++ e ∷ []) m
   pub limits : m.limits ≡ small
 
-next_event : (log : List Event) (c : Call) (e : Event) (m : MemoryTables)
-    → MemoryStandsFor (log ++ event_of log c ∷ []) m → m.limits ≡ small → e ≡ event_of log c → IsNext log e m
-next_event log c e m stands limits is = record {
-  stands = subst (λ (f : Event). MemoryStandsFor (log ++ f ∷ []) m) (sym is) stands;
-  limits = limits;
-}
-
 -- a memory that permits a call performs it
-pub next_call : (old mid new : MemoryTables) (p : Parts) (c : Call) (v : ℕ) (e : Event)
-    (r : StandForOneLog old p)
-    → ((log : List Event) → MemoryStandsFor log old → MemoryStandsFor log mid) → mid.limits ≡ old.limits
-    → ((log : List Event) → MemoryStandsFor log mid → v ≡ value_of log c.op c.arg)
-    → ((log : List Event) → MemoryStandsFor log mid → MemoryStandsFor (log ++ event_of log c ∷ []) new)
-    → new.limits ≡ mid.limits → e ≡ record { thread = c.thread; op = c.op; site = c.site; value = v }
-    → IsNext r.log e new
-next_call old mid new p c v e r permitted kept value performed same is =
-    let stands = permitted r.log r.memory in
-    next_event r.log c e new (performed r.log stands) (same ∙ (kept ∙ r.memory_limits))
-    (is_event r.log c v e is (value r.log stands))
+pub next_event : (old new : MemoryTables) (p : Parts) (e : Event) (r : StandForOneLog old p)
+    → ((log : List Event) → MemoryStandsFor log old → MemoryStandsFor (log ++ e ∷ []) new)
+    → new.limits ≡ old.limits → IsNext r.log e new
+next_event old new p e r performed same = record {
+  stands = performed r.log r.memory;
+  limits = same ∙ r.memory_limits;
+}
 
 -- its event is legal
 legal : (log : List Event) (e : Event) (m : MemoryTables) → IsNext log e m → WellFormed small (log ++ e ∷ [])

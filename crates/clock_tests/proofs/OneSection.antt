@@ -4,7 +4,7 @@ use Rattle.std.proofs.Common.{length, nat_eq, sym, ap, subst, ◌∙◌, arith}
 use Rattle.event_core.specs.Closed.{Closed, Has, first, later, is_counted}
 use Rattle.event_core.specs.Rows.{with_row}
 use Rattle.event_core.proofs.RowsAfterProperties.{row_same}
-use Rattle.lock_queues.specs.Searched.{CountsEarlier, IsAboveAll}
+use Rattle.lock_queues.specs.Searched.{CoversEarlier, IsAboveAll}
 
 -- a table that was written at a thread and a lock
 pub written : {A : Type 0} (f g : ℕ → ℕ → A) (t l : ℕ) (x : A) → f ≡ with_row t (with_row l x (g t)) g
@@ -18,7 +18,7 @@ above_none c [] e q u h = elim h [ ]
 above_none c (p ∷ qs) e q u h = absurd (omega arith)
 
 -- one section is earlier than itself alone
-pub earlier_one : (c : ℕ → ℕ) (qs : List Closed) → length qs ≤ 1 → CountsEarlier c qs
+pub earlier_one : (c : ℕ → ℕ) (qs : List Closed) → length qs ≤ 1 → CoversEarlier c qs
 earlier_one c [] few p q hp hq le is = elim hp [ ]
 earlier_one c (x ∷ y ∷ qs) few p q hp hq le is = absurd (omega arith)
 earlier_one c (x ∷ []) few p q hp hq le is = ap (is_counted c) (only p hp ∙ sym (only q hq)) ∙ is

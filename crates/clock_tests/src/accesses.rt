@@ -5,71 +5,52 @@ ghost use Rattle.access_check.specs.Tables.{count_at};
 use crate::clocks::{Run, event};
 use crate::expected::expect;
 use access_check::Accesses;
-use event_core::{Event, Limits, LockId, Op, Roots, ThreadId, VarId, Verdict};
+use event_core::{Event, Limits, Op, Roots, Verdict};
 use hb_clocks::{Clock, JoinedClocks};
 use std::alloc::Global;
 use std::process::Abort;
+use test_logs::{ACCESS_BEFORE_CONFLICT, T0, T1, THREE_STORES, X, call_at, count_lines};
 
-const T0: ThreadId = ThreadId(0);
+/// A log by three threads, and the verdicts on its events.
+struct Case {
+    text: &'static str,
+    /// Of each event, how many events of another log's thread 0 are ordered before it.
+    counts: &'static [u32],
+    /// The indices of events that race, and of the earlier ones that they race with.
+    races: &'static [(usize, u64)],
+}
 
-const T1: ThreadId = ThreadId(1);
+const STORES: Case = Case {
+    text: THREE_STORES,
+    counts: &[2, 2, 2, 2, 2],
+    races: &[(3, 2), (4, 3)],
+};
 
-const T2: ThreadId = ThreadId(2);
+const ORDERED: Case = Case {
+    text: ACCESS_BEFORE_CONFLICT,
+    counts: &[1, 1, 1, 1, 1, 1, 1, 5, 5],
+    races: &[(6, 1)],
+};
 
-const L: LockId = LockId(0);
-
-const X: VarId = VarId(0);
-
-const Y: VarId = VarId(1);
-
-const CLEAR: Verdict = Verdict::Clear;
-
-/// An event, how many events of thread 0 are ordered before it, and the verdict on it.
-type Judged = (ThreadId, Op, u32, Verdict);
-
-const STORES: &[Judged] = &[
-    (T0, Op::Fork(T1), 2, CLEAR),
-    (T0, Op::Fork(T2), 2, CLEAR),
-    (T1, Op::Store(X), 2, CLEAR),
-    (T2, Op::Store(X), 2, Verdict::Racy(2)),
-    (T0, Op::Store(X), 2, Verdict::Racy(3)),
-];
-
-const ORDERED: &[Judged] = &[
-    (T0, Op::Fork(T1), 1, CLEAR),
-    (T0, Op::Store(Y), 1, CLEAR),
-    (T0, Op::Acquire(L), 1, CLEAR),
-    (T0, Op::Store(X), 1, CLEAR),
-    (T0, Op::Release(L), 1, CLEAR),
-    (T1, Op::Acquire(L), 1, CLEAR),
-    (T1, Op::Load(Y), 1, Verdict::Racy(1)),
-    (T1, Op::Load(X), 5, CLEAR),
-    (T1, Op::Release(L), 5, CLEAR),
-];
-
-const LOADS: &[Judged] = &[
-    (T0, Op::Load(X), 0, CLEAR),
-    (T1, Op::Load(X), 0, CLEAR),
-    (T2, Op::Store(X), 0, Verdict::Racy(1)),
-    (T0, Op::Load(X), 0, Verdict::Racy(2)),
-];
+const LOADS: Case = Case {
+    text: "T0|r(x)|1\nT1|r(x)|2\nT2|w(x)|3\nT0|r(x)|4\n",
+    counts: &[0, 0, 0, 0],
+    races: &[(2, 1), (3, 2)],
+};
 
 // The last store races, and so it forgets nothing.
-const STORE_WITHOUT_A_RACE: &[Judged] = &[
-    (T0, Op::Load(X), 0, CLEAR),
-    (T1, Op::Store(X), 1, CLEAR),
-    (T0, Op::Store(X), 0, Verdict::Racy(1)),
-    (T2, Op::Load(X), 0, Verdict::Racy(2)),
-    (T2, Op::Store(X), 2, Verdict::Racy(1)),
-];
+const STORE_WITHOUT_A_RACE: Case = Case {
+    text: "T0|r(x)|1\nT1|w(x)|2\nT0|w(x)|3\nT2|r(x)|4\nT2|w(x)|5\n",
+    counts: &[0, 1, 0, 0, 2],
+    races: &[(2, 1), (3, 2), (4, 1)],
+};
 
 // Nor do accesses of different variables conflict.
-const ONE_THREAD: &[Judged] = &[
-    (T1, Op::Store(X), 0, CLEAR),
-    (T1, Op::Load(X), 0, CLEAR),
-    (T1, Op::Store(X), 0, CLEAR),
-    (T2, Op::Store(Y), 0, CLEAR),
-];
+const ONE_THREAD: Case = Case {
+    text: "T1|w(x)|1\nT1|r(x)|2\nT1|w(x)|3\nT2|w(y)|4\n",
+    counts: &[0, 0, 0, 0],
+    races: &[],
+};
 
 /// The accesses of a log of so many events by three threads.
 #[derive(Drop)]
@@ -122,12 +103,23 @@ fn clocks_of(rt: &impl Abort, alloc: Global, count: u32) -> Run {
     run
 }
 
-fn expect_verdicts(rt: &impl Abort, alloc: Global, rows: &[Judged]) {
+fn verdict_on(case: &Case, index: usize) -> Verdict {
+    for (event, with) in case.races {
+        if *event == index {
+            return Verdict::Racy(*with);
+        }
+    }
+    Verdict::Clear
+}
+
+fn expect_verdicts(rt: &impl Abort, alloc: Global, case: &Case) {
     let mut log = Log::new(rt, alloc);
-    for (row, (thread, op, count, wanted)) in rows.iter().enumerate() {
+    expect(rt, &"events", count_lines(case.text), case.counts.len());
+    for (index, count) in case.counts.iter().enumerate() {
+        let call = call_at(case.text, index).expect(rt, "an event");
         let run = clocks_of(rt, alloc, *count);
-        let verdicts = log.step(rt, &event(*thread, *op), run.clocks.po(T0));
-        expect(rt, row, verdicts, [*wanted, *wanted]);
+        let verdicts = log.step(rt, &call.event_with(0), run.clocks.po(T0));
+        expect(rt, &index, verdicts, [verdict_on(case, index); 2]);
         drop(run);
     }
     drop(log);
@@ -135,27 +127,27 @@ fn expect_verdicts(rt: &impl Abort, alloc: Global, rows: &[Judged]) {
 
 #[test]
 fn the_greatest_racing_index_is_named(rt: HostRuntime) {
-    expect_verdicts(&rt, rt.alloc(), STORES);
+    expect_verdicts(&rt, rt.alloc(), &STORES);
 }
 
 #[test]
 fn what_is_ordered_before_the_access_does_not_race(rt: HostRuntime) {
-    expect_verdicts(&rt, rt.alloc(), ORDERED);
+    expect_verdicts(&rt, rt.alloc(), &ORDERED);
 }
 
 #[test]
 fn loads_do_not_conflict_with_loads(rt: HostRuntime) {
-    expect_verdicts(&rt, rt.alloc(), LOADS);
+    expect_verdicts(&rt, rt.alloc(), &LOADS);
 }
 
 #[test]
 fn a_store_without_a_race_stands_for_what_was_before_it(rt: HostRuntime) {
-    expect_verdicts(&rt, rt.alloc(), STORE_WITHOUT_A_RACE);
+    expect_verdicts(&rt, rt.alloc(), &STORE_WITHOUT_A_RACE);
 }
 
 #[test]
 fn accesses_of_one_thread_do_not_conflict(rt: HostRuntime) {
-    expect_verdicts(&rt, rt.alloc(), ONE_THREAD);
+    expect_verdicts(&rt, rt.alloc(), &ONE_THREAD);
 }
 
 #[test]

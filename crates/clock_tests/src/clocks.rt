@@ -8,13 +8,12 @@ ghost use Rattle.hb_clocks.specs.Tables.{state_of, IsWithin};
 mod cases;
 
 use crate::expected::expect;
-use cases::{
-    EMPTY_CHILD, GREATER, INNER_RELEASE, MARKED, NESTED_SECTIONS, READ_AS_ONE, Row, T0, T1, T2,
-};
-use event_core::{Event, Limits, Op, Roots, SiteId, ThreadId};
+use cases::{Case, GREATER, IDLE, INNER, MARKED, NESTED, READ_AS_ONE, Row};
+use event_core::{Event, Limits, Op, Roots, ThreadId};
 use hb_clocks::{Clock, HbClocks, JoinedClocks, Mark, ReleaseClock, Work};
 use std::alloc::Global;
 use std::process::Abort;
+use test_logs::{T0, T1, T2, call, call_at};
 
 /// The clocks of three threads after some events, and one beside them.
 #[derive(Drop)]
@@ -34,12 +33,7 @@ pub fn event(thread: ThreadId, op: Op) -> Event
     ensures thread { result.thread ≡ thread }
     ensures op { result.op ≡ op }
 {
-    Event {
-        thread,
-        op,
-        site: SiteId(0),
-        value: 0,
-    }
+    call(thread, op, 0).event_with(0)
 }
 
 // Whether the threads that the event names are below 3.
@@ -56,7 +50,7 @@ fn is_within(event: &Event) -> bool
 fn expect_numbers(rt: &impl Abort, at: usize, clock: &Clock, wanted: &[u64; 3])
     requires { length clock.now ≡ 3 }
 {
-    expect(rt, at, [clock.at(T0), clock.at(T1), clock.at(T2)], *wanted);
+    expect(rt, &at, [clock.at(T0), clock.at(T1), clock.at(T2)], *wanted);
 }
 
 // A count for one call, which has no work yet.
@@ -131,7 +125,7 @@ impl Run {
         let mut work = no_work(rt, self.alloc);
         let by_po = mark.counted(self.clocks.po(thread), &mut work);
         let by_hb = mark.counted(self.clocks.hb(thread), &mut work);
-        expect(rt, at, [by_po, by_hb], *wanted);
+        expect(rt, &at, [by_po, by_hb], *wanted);
     }
 
     // The clock beside the others takes the numbers of the thread's clock of program order.
@@ -164,14 +158,13 @@ impl Run {
 
     fn follow(&mut self, rt: &impl Abort, at: usize, row: &Row) {
         match row {
-            Row::Take(thread, op) => self.take(rt, &event(*thread, *op)),
             Row::Po(thread, wanted) => expect_numbers(rt, at, self.clocks.po(*thread), wanted),
             Row::Hb(thread, wanted) => expect_numbers(rt, at, self.clocks.hb(*thread), wanted),
             Row::Depth(thread, lock, wanted) => {
-                expect(rt, at, self.clocks.depth(*thread, *lock), *wanted);
+                expect(rt, &at, self.clocks.depth(*thread, *lock), *wanted);
             }
             Row::Admits(thread, op, wanted) => {
-                expect(rt, at, self.clocks.admits(*thread, *op), *wanted);
+                expect(rt, &at, self.clocks.admits(*thread, *op), *wanted);
             }
             Row::Mark(thread) => self.marked = Some(self.latest(rt, *thread)),
             Row::Counts(thread, wanted) => self.expect_counts(rt, at, *thread, wanted),
@@ -179,15 +172,22 @@ impl Run {
             Row::Join(thread) => self.join(rt, *thread),
             Row::Clock(wanted) => self.expect_beside(rt, at, wanted),
             Row::Joined(first, second, wanted) => {
-                expect(rt, at, self.joined(*first, *second), *wanted);
+                expect(rt, &at, self.joined(*first, *second), *wanted);
             }
         }
     }
 }
 
-fn follow_all(rt: &impl Abort, alloc: Global, rows: &[Row]) {
+fn follow_all(rt: &impl Abort, alloc: Global, case: &Case) {
+    let (text, rows) = *case;
     let mut run = Run::new(rt, alloc);
-    for (at, row) in rows.iter().enumerate() {
+    let mut taken = 0;
+    for (at, (events, row)) in rows.iter().enumerate() {
+        for index in taken..*events {
+            let call = call_at(text, index).expect(rt, "an event");
+            run.take(rt, &call.event_with(0));
+        }
+        taken = *events;
         run.follow(rt, at, row);
     }
     drop(run);
@@ -195,30 +195,30 @@ fn follow_all(rt: &impl Abort, alloc: Global, rows: &[Row]) {
 
 #[test]
 fn nested_sections_hand_on_their_numbers(rt: HostRuntime) {
-    follow_all(&rt, rt.alloc(), NESTED_SECTIONS);
+    follow_all(&rt, rt.alloc(), &NESTED);
 }
 
 #[test]
 fn the_fork_of_an_empty_child_is_below_its_join(rt: HostRuntime) {
-    follow_all(&rt, rt.alloc(), EMPTY_CHILD);
+    follow_all(&rt, rt.alloc(), &IDLE);
 }
 
 #[test]
 fn the_outer_release_alone_hands_on(rt: HostRuntime) {
-    follow_all(&rt, rt.alloc(), INNER_RELEASE);
+    follow_all(&rt, rt.alloc(), &INNER);
 }
 
 #[test]
 fn a_mark_is_counted_from_its_event_on(rt: HostRuntime) {
-    follow_all(&rt, rt.alloc(), MARKED);
+    follow_all(&rt, rt.alloc(), &MARKED);
 }
 
 #[test]
 fn clocks_take_the_greater_numbers(rt: HostRuntime) {
-    follow_all(&rt, rt.alloc(), GREATER);
+    follow_all(&rt, rt.alloc(), &GREATER);
 }
 
 #[test]
 fn two_clocks_are_read_as_their_join(rt: HostRuntime) {
-    follow_all(&rt, rt.alloc(), READ_AS_ONE);
+    follow_all(&rt, rt.alloc(), &READ_AS_ONE);
 }

@@ -2,11 +2,15 @@
 use std::fmt::Debug;
 use std::process::Abort;
 
-/// Ends the test unless what came is what was expected, and prints both after the number of the row, from 0
-/// on.
-pub fn expect<T: Copy + PartialEq + Debug>(rt: &impl Abort, row: usize, came: T, expected: T) {
-    assert!(rt;
-        came == expected,
-        "row {row}: expected {expected:?}, came {came:?}"
-    );
+/// Ends the test unless what came is what was wanted, and prints both after the place. A library ends no
+/// program, so each crate of tests has this function of its own.
+pub fn expect<T: Copy + PartialEq + Debug>(
+    rt: &impl Abort,
+    place: &impl Debug,
+    came: T,
+    wanted: T,
+) {
+    if came != wanted {
+        panic!(rt; "{place:?}: wanted {wanted:?}, came {came:?}")
+    }
 }

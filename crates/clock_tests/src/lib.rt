@@ -16,6 +16,8 @@ mod expected;
 #[cfg(test)]
 mod logs;
 #[cfg(test)]
+mod made;
+#[cfg(test)]
 mod queues;
 #[cfg(test)]
 mod strict_clocks;

@@ -9,12 +9,13 @@ mod cases;
 
 use crate::clocks::{Run, event, no_work, numbers_of};
 use crate::expected::expect;
-use cases::{L, ONE_SECTION, RELEASES, Row, T0, T1, THREE_THREADS, TWO_THREADS};
-use event_core::{Limits, LockId, Op, Roots, ThreadId, VarId};
+use cases::{ONE_SECTION, RELEASES, Row, THREE_THREADS, TWO_THREADS};
+use event_core::{Limits, LockId, Op, Roots, ThreadId};
 use hb_clocks::{Clock, HbClocks, Mark, Work};
 use lock_queues::Queues;
 use std::alloc::Global;
 use std::process::Abort;
+use test_logs::{L, T0, T1, X};
 
 /// The sections of three threads on two locks, and the clocks of those threads.
 #[derive(Drop)]
@@ -120,7 +121,7 @@ impl Sections {
         assert!(rt; number <= self.queues.count(lock));
         let section = self.queues.section(lock, number);
         let found = (section.by(), numbers_of(rt, self.alloc, &section));
-        expect(rt, at, found, wanted);
+        expect(rt, &at, found, wanted);
     }
 
     fn join_release(&mut self, rt: &impl Abort, lock: LockId, number: u32) {
@@ -152,10 +153,14 @@ impl Sections {
 
     fn follow(&mut self, rt: &impl Abort, at: usize, row: &Row) {
         match row {
-            Row::Take(thread) => self.run.take(rt, &event(*thread, Op::Load(VarId(0)))),
+            Row::Take(thread, events) => {
+                for _event in 0..*events {
+                    self.run.take(rt, &event(*thread, Op::Load(X)));
+                }
+            }
             Row::Fork(thread, child) => self.run.take(rt, &event(*thread, Op::Fork(*child))),
             Row::Close(thread, lock) => self.close(rt, *thread, *lock),
-            Row::Count(lock, wanted) => expect(rt, at, self.queues.count(*lock), *wanted),
+            Row::Count(lock, wanted) => expect(rt, &at, self.queues.count(*lock), *wanted),
             Row::Section(lock, number, by, wanted) => {
                 self.expect_section(rt, at, *lock, *number, (*by, *wanted));
             }

@@ -125,7 +125,7 @@ fn follow(rt: &impl Abort, sections: &mut Sections, at: usize, row: &Row) {
         }
         Row::Meets(thread, lock, var, kind, wanted) => {
             let came = met(sections, ThreadId(*thread), *lock, *var, *kind);
-            expect(rt, at, came, *wanted);
+            expect(rt, &at, came, *wanted);
         }
     }
 }

@@ -6,20 +6,17 @@
 //! are wanted too. How many there are of each, only a run can tell: with this generator 97 forks, 321 joins
 //! and 794 swaps, and logs for the broken rules, in their order, 126, 55, 62, 71, 307 and 66.
 use crate::closure::Closure;
-use crate::compared::compare;
-use crate::expected::expect_at_least;
-use crate::generator::Generator;
+use crate::draws::draw_acts;
+use crate::expected::expect;
 use crate::pairs::MOST_EVENTS;
+use crate::random_logs::{expect_enough, increase};
 use crate::rules::Rules;
-use crate::told::{Supply, Told, Trial, Way, tell};
+use crate::told::{Told, Trial, Way, tell};
 use event_core::{Done, Limits, Op, Roots};
 use std::alloc::Global;
-use std::process::Abort;
+use test_logs::Generator;
 
 const LOGS: usize = 500;
-
-// At least so many logs tell a broken rule, and so many forks, joins and swaps are in all of them.
-const FEWEST: u64 = 20;
 
 // A broken rule, and its name.
 const BROKEN: &[(Rules, &str); 6] = &[
@@ -47,53 +44,27 @@ struct Tally {
     changed: [u64; 6],
 }
 
-fn increase(count: &mut u64) {
-    *count = count.saturating_add(1);
-}
-
-// Draws a log. The closure judges it as the monitor does.
-fn draw(rt: &impl Abort, alloc: Global, number: usize, generator: &mut Generator) -> Told {
-    let trial = Trial {
-        case: "log of a template",
-        number,
-        way: Way::Steps(u64::MAX),
-        supply: Supply::Ample,
-    };
-    let limits = Limits::new(3, 2, 2, MOST_EVENTS as u64, Roots::Free).expect(rt, "small limits");
-    let acts = generator.acts(alloc);
-    let told = tell(rt, alloc, limits, &acts, &trial);
-    drop(acts);
-    compare(rt, alloc, &told, &trial);
-    told
-}
-
 impl Tally {
-    fn add_kinds(&mut self, told: &Told) {
+    fn add(&mut self, alloc: Global, told: &Told) {
         for done in &told.answers {
-            if let Done::Swap(_) = done {
-                increase(&mut self.swaps);
-            }
+            increase(&mut self.swaps, u64::from(matches!(done, Done::Swap(_))));
         }
         for event in &told.log {
-            match event.op {
-                Op::Fork(_) => increase(&mut self.forks),
-                Op::Join(_) => increase(&mut self.joins),
-                _ => {}
-            }
+            increase(&mut self.forks, u64::from(matches!(event.op, Op::Fork(_))));
+            increase(&mut self.joins, u64::from(matches!(event.op, Op::Join(_))));
         }
-    }
-
-    fn add_changed(&mut self, alloc: Global, told: &Told) {
         for (changed, (rules, _)) in self.changed.iter_mut().zip(BROKEN) {
             let closure = Closure::of(alloc, &told.log, *rules);
-            if !closure.has_verdicts(&told.log, &told.verdicts) {
-                increase(changed);
-            }
+            let is_same = closure.has_verdicts(&told.log, &told.verdicts);
+            increase(changed, u64::from(!is_same));
         }
     }
 }
 
-fn count_all(rt: &impl Abort, alloc: Global) -> Tally {
+#[test]
+fn each_broken_rule_changes_verdicts(rt: HostRuntime) {
+    let alloc = rt.alloc();
+    let limits = Limits::new(3, 2, 2, MOST_EVENTS as u64, Roots::Free).expect(&rt, "small limits");
     let mut generator = Generator::new(2017);
     let mut tally = Tally {
         forks: 0,
@@ -102,21 +73,24 @@ fn count_all(rt: &impl Abort, alloc: Global) -> Tally {
         changed: [0; 6],
     };
     for number in 0..LOGS {
-        let told = draw(rt, alloc, number, &mut generator);
-        tally.add_kinds(&told);
-        tally.add_changed(alloc, &told);
+        let trial = Trial {
+            case: "log of a template",
+            number,
+            way: Way::Steps(u64::MAX),
+            tries: 1,
+        };
+        let acts = draw_acts(&rt, &mut generator, alloc);
+        let told = tell(&rt, alloc, limits, &acts, trial);
+        expect(&rt, &trial, told.answers.len(), acts.len());
+        told.compare(&rt, alloc, trial);
+        tally.add(alloc, &told);
         drop(told);
+        drop(acts);
     }
-    tally
-}
-
-#[test]
-fn each_broken_rule_changes_verdicts(rt: HostRuntime) {
-    let tally = count_all(&rt, rt.alloc());
-    expect_at_least(&rt, "forks", FEWEST, tally.forks);
-    expect_at_least(&rt, "joins", FEWEST, tally.joins);
-    expect_at_least(&rt, "swaps", FEWEST, tally.swaps);
+    expect_enough(&rt, "forks", tally.forks);
+    expect_enough(&rt, "joins", tally.joins);
+    expect_enough(&rt, "swaps", tally.swaps);
     for (changed, (_, name)) in tally.changed.iter().zip(BROKEN) {
-        expect_at_least(&rt, name, FEWEST, *changed);
+        expect_enough(&rt, name, *changed);
     }
 }

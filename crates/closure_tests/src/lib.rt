@@ -11,17 +11,11 @@
 #[cfg(test)]
 mod broken_rules;
 #[cfg(test)]
-mod calls;
-#[cfg(test)]
-mod cases;
-#[cfg(test)]
 mod closure;
 #[cfg(test)]
-mod compared;
+mod draws;
 #[cfg(test)]
 mod expected;
-#[cfg(test)]
-mod generator;
 #[cfg(test)]
 mod orders;
 #[cfg(test)]
@@ -35,12 +29,8 @@ mod rules;
 #[cfg(test)]
 mod sections;
 #[cfg(test)]
-mod steps;
-#[cfg(test)]
-mod swaps;
-#[cfg(test)]
 mod templates;
 #[cfg(test)]
 mod told;
 #[cfg(test)]
-mod worked_logs;
+mod worked_cases;

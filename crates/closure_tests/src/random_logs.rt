@@ -1,18 +1,17 @@
 //! The comparison on random logs.
 use crate::closure::Closure;
-use crate::compared::compare;
-use crate::expected::{expect_at_least, expect_same};
-use crate::generator::Generator;
+use crate::draws::draw_calls;
+use crate::expected::expect;
 use crate::sections::is_inner_acquire;
-use crate::told::{Supply, Trial, Way, tell};
-use event_core::{Act, Event, Limits, Roots, Verdict};
-use std::alloc::Global;
+use crate::told::{Told, Trial, Way, tell};
+use event_core::{Limits, Roots, Verdict};
 use std::process::Abort;
+use test_logs::Generator;
 
 const LOGS: usize = 500;
 
 // Of each kind of thing at least so many are wanted in all logs together.
-const FEWEST: u64 = 20;
+pub const FEWEST: u64 = 20;
 
 const EVENTS: u64 = 24;
 
@@ -30,27 +29,17 @@ struct Occurrences {
     inner_acquires: u64,
 }
 
-fn increase(count: &mut u64, more: u64) {
+pub fn increase(count: &mut u64, more: u64) {
     *count = count.saturating_add(more);
 }
 
+/// Ends the test unless there are enough.
+pub fn expect_enough(rt: &impl Abort, what: &str, count: u64) {
+    expect(rt, &(what, count), FEWEST <= count, true);
+}
+
 impl Occurrences {
-    const NONE: Occurrences = Occurrences {
-        strict_pairs: 0,
-        unordered_pairs: 0,
-        racy_verdicts: 0,
-        inner_acquires: 0,
-    };
-
-    // Something of each kind occurred often enough to tell.
-    fn expect_each_kind(&self, rt: &impl Abort) {
-        expect_at_least(rt, "strict pairs", FEWEST, self.strict_pairs);
-        expect_at_least(rt, "unordered pairs", FEWEST, self.unordered_pairs);
-        expect_at_least(rt, "racy verdicts", FEWEST, self.racy_verdicts);
-        expect_at_least(rt, "inner acquires", FEWEST, self.inner_acquires);
-    }
-
-    fn add_pairs(&mut self, closure: &Closure) {
+    fn add(&mut self, told: &Told, closure: &Closure) {
         let strict = closure.strict.without(&closure.program_order);
         let unordered = closure
             .happens_before
@@ -58,56 +47,46 @@ impl Occurrences {
             .without(&closure.strict);
         increase(&mut self.strict_pairs, strict.count());
         increase(&mut self.unordered_pairs, unordered.count());
-    }
-
-    fn add_verdicts(&mut self, verdicts: &[Verdict]) {
-        for verdict in verdicts {
-            if *verdict != Verdict::Clear {
-                increase(&mut self.racy_verdicts, 1);
-            }
+        for verdict in &told.verdicts {
+            increase(
+                &mut self.racy_verdicts,
+                u64::from(*verdict != Verdict::Clear),
+            );
+        }
+        for (index, event) in told.log.iter().enumerate() {
+            let is_inner = is_inner_acquire(&told.log[..index], event);
+            increase(&mut self.inner_acquires, u64::from(is_inner));
         }
     }
-
-    fn add_events(&mut self, log: &[Event]) {
-        for (index, event) in log.iter().enumerate() {
-            if is_inner_acquire(&log[..index], event) {
-                increase(&mut self.inner_acquires, 1);
-            }
-        }
-    }
-}
-
-// Compares the verdicts on the log that the acts make, and adds what occurs in it.
-fn compare_log(
-    rt: &impl Abort,
-    alloc: Global,
-    number: usize,
-    acts: &[Act],
-    occurred: &mut Occurrences,
-) {
-    let limits = Limits::new(3, 4, 3, 64, Roots::Free).expect(rt, "small limits");
-    let trial = Trial {
-        case: "random log",
-        number,
-        way: Way::Steps(EVENTS),
-        supply: Supply::Ample,
-    };
-    let told = tell(rt, alloc, limits, acts, &trial);
-    expect_same(rt, &trial, "events", 0, &(EVENTS as usize), &told.log.len());
-    let closure = compare(rt, alloc, &told, &trial);
-    occurred.add_pairs(&closure);
-    occurred.add_verdicts(&told.verdicts);
-    occurred.add_events(&told.log);
 }
 
 #[test]
 fn the_monitor_and_the_closure_judge_alike(rt: HostRuntime) {
+    let alloc = rt.alloc();
+    let limits = Limits::new(3, 4, 3, 64, Roots::Free).expect(&rt, "small limits");
     let mut generator = Generator::new(204);
-    let mut occurred = Occurrences::NONE;
+    let mut occurred = Occurrences {
+        strict_pairs: 0,
+        unordered_pairs: 0,
+        racy_verdicts: 0,
+        inner_acquires: 0,
+    };
     for number in 0..LOGS {
-        let acts = generator.calls(rt.alloc(), CALLS);
-        compare_log(&rt, rt.alloc(), number, &acts, &mut occurred);
+        let trial = Trial {
+            case: "random log",
+            number,
+            way: Way::Steps(EVENTS),
+            tries: 1,
+        };
+        let acts = draw_calls(&mut generator, alloc, CALLS);
+        let told = tell(&rt, alloc, limits, &acts, trial);
+        expect(&rt, &trial, told.log.len() as u64, EVENTS);
+        occurred.add(&told, &told.compare(&rt, alloc, trial));
+        drop(told);
         drop(acts);
     }
-    occurred.expect_each_kind(&rt);
+    expect_enough(&rt, "strict pairs", occurred.strict_pairs);
+    expect_enough(&rt, "unordered pairs", occurred.unordered_pairs);
+    expect_enough(&rt, "racy verdicts", occurred.racy_verdicts);
+    expect_enough(&rt, "inner acquires", occurred.inner_acquires);
 }

@@ -1,7 +1,7 @@
 //! Critical sections.
-use crate::expected::add;
 use event_core::{Event, LockId, Op, ThreadId};
 use std::alloc::Global;
+use test_logs::add;
 
 /// A critical section: what its thread does from an outer acquire of the lock to the outer release that
 /// matches it, or to the end of the log where there is none yet.

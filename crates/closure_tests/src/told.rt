@@ -1,19 +1,13 @@
 //! What a monitor makes of a list of acts, one by one or as one run.
-use crate::expected::{add, expect, expect_same};
+use crate::closure::Closure;
+use crate::expected::expect;
+use crate::pairs::MOST_EVENTS;
+use crate::rules::Rules;
 use event_core::{Act, Call, Done, Event, Limits, Op, OutOfMemory, Outcome, Refusal, Verdict};
 use seq_monitor::{Monitor, Race};
 use std::alloc::Global;
 use std::process::Abort;
-
-/// What a test expects of memory.
-#[derive(Clone, Copy, PartialEq, Eq)]
-pub enum Supply {
-    /// There is enough: that a call is refused for memory fails the test.
-    Ample,
-    /// One growth may be refused: what is refused for memory is asked for once more, except releases, which
-    /// take none.
-    MayRefuse,
-}
+use test_logs::add;
 
 /// How the acts are made.
 #[derive(Clone, Copy, Debug)]
@@ -29,61 +23,46 @@ pub enum Way {
 }
 
 /// A case, and how it is tried.
-#[derive(Clone, Copy)]
+#[derive(Clone, Copy, Debug)]
 pub struct Trial {
     pub case: &'static str,
-    /// Its place among the cases of its table, or among the logs that are drawn.
+    /// Its place among the logs that are drawn.
     pub number: usize,
     pub way: Way,
-    pub supply: Supply,
+    /// Where memory is refused the acts that are left are made again, so often in all. A release takes none.
+    pub tries: u32,
 }
 
 /// What a monitor answered, and what it held then.
 #[derive(Drop)]
 pub struct Told {
     pub answers: Vec<Done>,
-    /// The events of the log, and the verdicts that they were answered.
-    pub log: Vec<Event>,
+    /// The verdicts of the answers, one for each event.
     pub verdicts: Vec<Verdict>,
-    /// The races that the monitor's list of verdicts has.
+    pub log: Vec<Event>,
     pub races: Vec<Race>,
 }
 
-impl Supply {
-    /// Whether what is refused for memory is asked for once more.
-    pub fn may_refuse(self) -> bool {
-        self == Supply::MayRefuse
-    }
-
-    // How often a run is begun.
-    fn runs(self) -> usize {
-        match self {
-            Supply::Ample => 1,
-            Supply::MayRefuse => 2,
-        }
-    }
-}
-
-fn monitor(rt: &impl Abort, alloc: Global, limits: Limits, supply: Supply) -> Monitor {
-    match Monitor::new(alloc, limits) {
-        Err(OutOfMemory) if supply.may_refuse() => {
-            Monitor::new(alloc, limits).expect(rt, "a new monitor has memory")
-        }
-        made => made.expect(rt, "a new monitor has memory"),
-    }
-}
-
-/// What becomes of the call at the first try.
-pub fn step_once(monitor: &mut Monitor, call: Call) -> Done {
+/// What becomes of the call.
+pub fn step(monitor: &mut Monitor, call: Call) -> Done {
     match monitor.step(call) {
         Ok(reply) => Done::One(reply),
         Err(refusal) => Done::Refused(refusal),
     }
 }
 
-fn take_once(monitor: &mut Monitor, act: Act) -> Done {
-    match act {
-        Act::One(call) => step_once(monitor, call),
+fn expect_ready(rt: &impl Abort, monitor: &Monitor, call: Call) {
+    expect(rt, &("ready", call), monitor.ready(&call), true);
+}
+
+// What becomes of the act, if there is memory. A release is ready, whatever growth was refused before it.
+fn take(rt: &impl Abort, monitor: &mut Monitor, act: Act) -> Option<Done> {
+    let done = match act {
+        Act::One(call) if matches!(call.op, Op::Release(_)) => {
+            expect_ready(rt, monitor, call);
+            return Some(step(monitor, call));
+        }
+        Act::One(call) => step(monitor, call),
         Act::Swap {
             thread,
             var,
@@ -93,153 +72,113 @@ fn take_once(monitor: &mut Monitor, act: Act) -> Done {
             Ok(reply) => Done::Swap(reply),
             Err(refusal) => Done::Refused(refusal),
         },
-    }
+    };
+    (done != Done::Refused(Refusal::OutOfMemory)).then_some(done)
 }
 
-// What becomes of the act. A release is ready, whatever growth was refused before it or would be.
-fn take(rt: &impl Abort, monitor: &mut Monitor, act: Act, number: usize, trial: &Trial) -> Done {
-    if let Act::One(call) = act
-        && let Op::Release(_) = call.op
-    {
-        let is_ready = monitor.ready(&call);
-        expect_same(rt, trial, "ready release", number, &true, &is_ready);
-        return step_once(monitor, call);
+// What becomes of the call, if there is room for it.
+fn take_prepared(rt: &impl Abort, monitor: &mut Monitor, act: Act) -> Option<Done> {
+    let Act::One(call) = act else {
+        return None;
+    };
+    if monitor.prepare(&call).is_err() {
+        return None;
     }
-    match take_once(monitor, act) {
-        Done::Refused(Refusal::OutOfMemory) if trial.supply.may_refuse() => {
-            take_once(monitor, act)
+    expect_ready(rt, monitor, call);
+    Some(step(monitor, call))
+}
+
+// Makes the acts by `run`, which stops where memory is refused.
+fn run(alloc: Global, monitor: &mut Monitor, acts: &[Act], answers: &mut Vec<Done>) {
+    let mut calls = Vec::new(alloc);
+    for act in acts {
+        if let Act::One(call) = act {
+            add(&mut calls, *call);
         }
-        done => done,
+    }
+    let mut outcomes = Vec::new(alloc);
+    let _stopped = monitor.run(&calls, &mut outcomes);
+    for outcome in &outcomes {
+        match *outcome {
+            Outcome::Accepted(reply) => add(answers, Done::One(reply)),
+            Outcome::Refused(refusal) => add(answers, Done::Refused(refusal)),
+        }
     }
 }
 
-// What becomes of the call at the first try, once there is room for it.
-fn take_prepared(
+// Makes the acts until memory is refused.
+fn make(
     rt: &impl Abort,
+    alloc: Global,
     monitor: &mut Monitor,
-    call: Call,
-    number: usize,
-    trial: &Trial,
-) -> Done {
-    let is_prepared = monitor.prepare(&call).is_ok()
-        || trial.supply.may_refuse() && monitor.prepare(&call).is_ok();
-    let is_ready = is_prepared && monitor.ready(&call);
-    expect_same(rt, trial, "prepared call", number, &true, &is_ready);
-    step_once(monitor, call)
-}
-
-// Begins again where it stopped.
-fn run(monitor: &mut Monitor, calls: &[Call], outcomes: &mut Vec<Outcome>, supply: Supply) {
-    for _run in 0..supply.runs() {
-        let made = outcomes.len();
-        if made < calls.len() {
-            let _stopped = monitor.run(&calls[made..], outcomes);
+    acts: &[Act],
+    way: Way,
+    answers: &mut Vec<Done>,
+) {
+    let most = match way {
+        Way::Run => return run(alloc, monitor, acts, answers),
+        Way::RunActs => {
+            let _stopped = monitor.run_acts(acts, answers);
+            return;
+        }
+        Way::Steps(most) => most,
+        Way::Prepared => u64::MAX,
+    };
+    for act in acts {
+        if most <= monitor.log().len() {
+            return;
+        }
+        let done = match way {
+            Way::Prepared => take_prepared(rt, monitor, *act),
+            _ => take(rt, monitor, *act),
+        };
+        match done {
+            Some(done) => add(answers, done),
+            None => return,
         }
     }
 }
 
-// Begins again where it stopped.
-fn run_acts(monitor: &mut Monitor, acts: &[Act], answers: &mut Vec<Done>, supply: Supply) {
-    for _run in 0..supply.runs() {
-        let made = answers.len();
-        if made < acts.len() {
-            let _stopped = monitor.run_acts(&acts[made..], answers);
-        }
-    }
+fn new_monitor(rt: &impl Abort, alloc: Global, limits: Limits, tries: u32) -> Monitor {
+    let monitor = match Monitor::new(alloc, limits) {
+        Err(OutOfMemory) if 1 < tries => Monitor::new(alloc, limits),
+        made => made,
+    };
+    monitor.expect(rt, "a new monitor has memory")
 }
 
 /// What a new monitor makes of the acts.
-pub fn tell(rt: &impl Abort, alloc: Global, limits: Limits, acts: &[Act], trial: &Trial) -> Told {
+pub fn tell(rt: &impl Abort, alloc: Global, limits: Limits, acts: &[Act], trial: Trial) -> Told {
     let mut told = Told {
         answers: Vec::new(alloc),
-        log: Vec::new(alloc),
         verdicts: Vec::new(alloc),
+        log: Vec::new(alloc),
         races: Vec::new(alloc),
     };
-    let mut monitor = monitor(rt, alloc, limits, trial.supply);
-    let has_limits = monitor.limits().events() == limits.events();
-    expect(rt, has_limits, "the limits of a new monitor");
-    told.make(rt, alloc, &mut monitor, acts, trial);
+    let mut monitor = new_monitor(rt, alloc, limits, trial.tries);
+    expect(rt, &trial, monitor.limits(), limits);
+    for _trial in 0..trial.tries {
+        let made = told.answers.len();
+        if made < acts.len() {
+            make(
+                rt,
+                alloc,
+                &mut monitor,
+                &acts[made..],
+                trial.way,
+                &mut told.answers,
+            );
+        }
+    }
+    told.keep(&monitor);
+    told.expect_held(rt, &monitor, trial);
     drop(monitor);
     told
 }
 
 impl Told {
-    // Makes the acts, and keeps what becomes of them and what the monitor holds then.
-    fn make(
-        &mut self,
-        rt: &impl Abort,
-        alloc: Global,
-        monitor: &mut Monitor,
-        acts: &[Act],
-        trial: &Trial,
-    ) {
-        match trial.way {
-            Way::Steps(most) => self.take_each(rt, monitor, acts, most, trial),
-            Way::Prepared => self.prepare_each(rt, monitor, acts, trial),
-            Way::Run => self.run_calls(alloc, monitor, acts, trial.supply),
-            Way::RunActs => run_acts(monitor, acts, &mut self.answers, trial.supply),
-        }
-        self.keep_verdicts();
-        self.keep_log(monitor);
-        self.expect_verdicts(rt, monitor, trial);
-    }
-
-    fn take_each(
-        &mut self,
-        rt: &impl Abort,
-        monitor: &mut Monitor,
-        acts: &[Act],
-        most: u64,
-        trial: &Trial,
-    ) {
-        for (number, act) in acts.iter().enumerate() {
-            if monitor.log().len() < most {
-                let done = take(rt, monitor, *act, number, trial);
-                add(&mut self.answers, done);
-            }
-        }
-    }
-
-    fn prepare_each(
-        &mut self,
-        rt: &impl Abort,
-        monitor: &mut Monitor,
-        acts: &[Act],
-        trial: &Trial,
-    ) {
-        for (number, act) in acts.iter().enumerate() {
-            if let Act::One(call) = act {
-                let done = take_prepared(rt, monitor, *call, number, trial);
-                add(&mut self.answers, done);
-            }
-        }
-    }
-
-    fn run_calls(&mut self, alloc: Global, monitor: &mut Monitor, acts: &[Act], supply: Supply) {
-        let mut calls = Vec::new(alloc);
-        for act in acts {
-            if let Act::One(call) = act {
-                add(&mut calls, *call);
-            }
-        }
-        let mut outcomes = Vec::new(alloc);
-        run(monitor, &calls, &mut outcomes, supply);
-        self.keep_outcomes(&outcomes);
-    }
-
-    fn keep_outcomes(&mut self, outcomes: &[Outcome]) {
-        for outcome in outcomes {
-            let done = match *outcome {
-                Outcome::Accepted(reply) => Done::One(reply),
-                Outcome::Refused(refusal) => Done::Refused(refusal),
-            };
-            add(&mut self.answers, done);
-        }
-    }
-
-    // Keeps the verdicts of the replies.
-    fn keep_verdicts(&mut self) {
+    // Keeps the verdicts of the answers, the log and the races.
+    fn keep(&mut self, monitor: &Monitor) {
         for done in &self.answers {
             match done {
                 Done::One(reply) => add(&mut self.verdicts, reply.verdict),
@@ -250,10 +189,6 @@ impl Told {
                 Done::Refused(_) => {}
             }
         }
-    }
-
-    // Keeps the log and the races that the monitor holds.
-    fn keep_log(&mut self, monitor: &Monitor) {
         for index in 0..monitor.log().len() {
             if let Some(event) = monitor.log().get(index) {
                 add(&mut self.log, event);
@@ -264,24 +199,31 @@ impl Told {
         }
     }
 
-    // The monitor's list of verdicts has those that it answered, one for each event of the log.
-    fn expect_verdicts(&self, rt: &impl Abort, monitor: &Monitor, trial: &Trial) {
-        let events = self.log.len();
-        let held = monitor.verdicts().len() as usize;
-        expect_same(
-            rt,
-            trial,
-            "verdicts answered, of",
-            events,
-            &events,
-            &self.verdicts.len(),
-        );
-        expect_same(rt, trial, "verdicts held, of", events, &events, &held);
-        for (number, verdict) in self.verdicts.iter().enumerate() {
-            if (number as u64) < monitor.log().len() {
-                let held = monitor.verdict_at(number as u64);
-                expect_same(rt, trial, "held verdict", number, verdict, &held);
+    // The monitor holds the verdicts that it answered, one for each event of the log.
+    fn expect_held(&self, rt: &impl Abort, monitor: &Monitor, trial: Trial) {
+        let events = monitor.log().len();
+        let counts = [
+            self.log.len() as u64,
+            self.verdicts.len() as u64,
+            monitor.verdicts().len(),
+        ];
+        expect(rt, &(trial, "events"), counts, [events; 3]);
+        for (index, verdict) in (0u64..).zip(&self.verdicts) {
+            if index < events {
+                let held = monitor.verdict_at(index);
+                expect(rt, &(trial, "held verdict", index), held, *verdict);
             }
         }
+    }
+
+    /// Closes the log. Each verdict that was answered is the closure's.
+    pub fn compare(&self, rt: &impl Abort, alloc: Global, trial: Trial) -> Closure {
+        let closure = Closure::of(alloc, &self.log, Rules::Whole);
+        expect(rt, &trial, self.log.len() <= MOST_EVENTS, true);
+        for (index, verdict) in self.verdicts.iter().enumerate() {
+            let wanted = closure.verdict(&self.log, index);
+            expect(rt, &(trial, "verdict", index), *verdict, wanted);
+        }
+        closure
     }
 }

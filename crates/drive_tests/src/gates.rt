@@ -1,9 +1,10 @@
 //! Gates that hold lines back.
-use crate::scripts::{Answer, Case, EVENTS, PATIENCE, expect_answer};
-use event_core::{LockId, Op, Refusal, ThreadId, VarId};
-use script_drive::{DriveFault, Gate};
+use crate::scripts::{Case, expect_answer};
+use event_core::ThreadId;
+use script_drive::Gate;
 use std::sync::atomic::{AtomicU64, AtomicUsize, Ordering};
 use std::test::*;
+use test_doubles::rows;
 
 /// Never lets a line go ahead. It counts how often it is asked.
 #[derive(Drop)]
@@ -26,21 +27,12 @@ fn a_shut_gate_is_asked_as_often_as_patience_allows(rt: HostRuntime) {
         asked: AtomicU64::new(0),
     };
     let case = Case {
-        name: "a shut gate",
-        text: "m r x\n",
-        events: EVENTS,
         patience: 3,
-        answer: Answer::Faults(DriveFault::Stuck {
-            thread: ThreadId(0),
-            line: 1,
-        }),
+        ..Case::of("m r x\n", "Stuck { thread: ThreadId(0), line: 1 }")
     };
     expect_answer(&rt, rt.alloc(), &gate, &case);
-    assert_eq!(&rt;
-        gate.asked.load(Ordering::SeqCst),
-        3,
-        "so often the gate was asked"
-    );
+    let asked = gate.asked.load(Ordering::SeqCst);
+    assert_eq!(&rt; asked, 3, "so often the gate was asked");
 }
 
 /// Lets each line go ahead once those before it in the order were done.
@@ -61,79 +53,36 @@ impl Gate for InOrder {
     }
 }
 
-/// In which order the lines of the sections are run, and the answer.
-struct Order {
-    lines: &'static [u64],
-    case: Case<'static>,
-}
-
 /// A section of the main thread and one of its child, which both store.
 const SECTIONS: &str =
     "m fork a\nm acq l\nm w x 1\nm rel l\na acq l\na w x 2\na rel l\nm join a\nm r x\n";
 
-const ORDERS: &[Order] = &[
-    Order {
-        lines: &[1, 2, 3, 4, 5, 6, 7, 8, 9],
-        case: Case {
-            name: "the main thread's section is first",
-            text: SECTIONS,
-            events: EVENTS,
-            patience: PATIENCE,
-            answer: Answer::Logs {
-                events: 9,
-                races: 0,
-                first: &[
-                    (0, Op::Fork(ThreadId(1)), 0, 0),
-                    (0, Op::Acquire(LockId(0)), 1, 0),
-                    (0, Op::Store(VarId(0)), 2, 1),
-                    (0, Op::Release(LockId(0)), 3, 0),
-                    (1, Op::Acquire(LockId(0)), 4, 0),
-                    (1, Op::Store(VarId(0)), 5, 2),
-                    (1, Op::Release(LockId(0)), 6, 0),
-                    (0, Op::Join(ThreadId(1)), 7, 0),
-                    (0, Op::Load(VarId(0)), 8, 2),
-                ],
-            },
-        },
-    },
-    Order {
-        lines: &[1, 5, 6, 7, 2, 3, 4, 8, 9],
-        case: Case {
-            name: "the child's section is first",
-            text: SECTIONS,
-            events: EVENTS,
-            patience: PATIENCE,
-            answer: Answer::Logs {
-                events: 9,
-                races: 0,
-                first: &[
-                    (0, Op::Fork(ThreadId(1)), 0, 0),
-                    (1, Op::Acquire(LockId(0)), 4, 0),
-                    (1, Op::Store(VarId(0)), 5, 2),
-                    (1, Op::Release(LockId(0)), 6, 0),
-                    (0, Op::Acquire(LockId(0)), 1, 0),
-                    (0, Op::Store(VarId(0)), 2, 1),
-                    (0, Op::Release(LockId(0)), 3, 0),
-                    (0, Op::Join(ThreadId(1)), 7, 0),
-                    (0, Op::Load(VarId(0)), 8, 1),
-                ],
-            },
-        },
-    },
-];
+/// In which order the lines of the sections are run, and the answer.
+const ORDERS: &[(&[u64], &str)] = rows! {
+    &[1, 2, 3, 4, 5, 6, 7, 8, 9],
+        "9 events, 0 races\nT0 Fork(ThreadId(1)) at 0: 0\n\
+        T0 Acquire(LockId(0)) at 1: 0\nT0 Store(VarId(0)) at 2: 1\nT0 Release(LockId(0)) at 3: 0\n\
+        T1 Acquire(LockId(0)) at 4: 0\nT1 Store(VarId(0)) at 5: 2\nT1 Release(LockId(0)) at 6: 0\n\
+        T0 Join(ThreadId(1)) at 7: 0\nT0 Load(VarId(0)) at 8: 2";
+    &[1, 5, 6, 7, 2, 3, 4, 8, 9],
+        "9 events, 0 races\nT0 Fork(ThreadId(1)) at 0: 0\n\
+        T1 Acquire(LockId(0)) at 4: 0\nT1 Store(VarId(0)) at 5: 2\nT1 Release(LockId(0)) at 6: 0\n\
+        T0 Acquire(LockId(0)) at 1: 0\nT0 Store(VarId(0)) at 2: 1\nT0 Release(LockId(0)) at 3: 0\n\
+        T0 Join(ThreadId(1)) at 7: 0\nT0 Load(VarId(0)) at 8: 1";
+};
 
 #[test]
 fn a_gate_decides_which_section_comes_first(rt: HostRuntime) {
-    for order in ORDERS {
+    for (lines, answer) in ORDERS {
         let gate = InOrder {
-            lines: order.lines,
+            lines,
             done: AtomicUsize::new(0),
         };
-        expect_answer(&rt, rt.alloc(), &gate, &order.case);
+        expect_answer(&rt, rt.alloc(), &gate, &Case::of(SECTIONS, answer));
     }
 }
 
-/// What a gate hears.
+/// What a gate hears of a line.
 #[derive(Clone, Copy, PartialEq, Eq)]
 enum Notice {
     /// The line is asked for, and may go ahead.
@@ -189,6 +138,7 @@ const NOTICES: &[Notice] = &[
     Asked(MAIN, 4),
 ];
 
+/// The release of line 4 is refused.
 #[test]
 fn a_gate_is_told_the_thread_and_the_line_and_only_of_accepted_calls_that_they_are_done(
     rt: HostRuntime,
@@ -198,26 +148,11 @@ fn a_gate_is_told_the_thread_and_the_line_and_only_of_accepted_calls_that_they_a
         heard: AtomicUsize::new(0),
         others: AtomicUsize::new(0),
     };
-    let case = Case {
-        name: "a release that is refused",
-        text: "m fork a\na r x\nm join a\nm rel l\n",
-        events: EVENTS,
-        patience: PATIENCE,
-        answer: Answer::Faults(DriveFault::Refused {
-            thread: MAIN,
-            line: 4,
-            refusal: Refusal::NotHolder,
-        }),
-    };
+    let answer = "Refused { thread: ThreadId(0), line: 4, refusal: NotHolder }";
+    let case = Case::of("m fork a\na r x\nm join a\nm rel l\n", answer);
     expect_answer(&rt, rt.alloc(), &gate, &case);
-    assert_eq!(&rt;
-        gate.heard.load(Ordering::SeqCst),
-        NOTICES.len(),
-        "so many notices came in order"
-    );
-    assert_eq!(&rt;
-        gate.others.load(Ordering::SeqCst),
-        0,
-        "so many other lines were told as done"
-    );
+    let heard = gate.heard.load(Ordering::SeqCst);
+    assert_eq!(&rt; heard, NOTICES.len(), "so many notices came in order");
+    let others = gate.others.load(Ordering::SeqCst);
+    assert_eq!(&rt; others, 0, "so many other lines were told as done");
 }

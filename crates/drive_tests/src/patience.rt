@@ -1,12 +1,12 @@
 //! How often an acquire and a join are tried.
 ghost use Rattle.std.specs.Prelude.{◌≡◌};
 
-use crate::scripts::{Answer, Case, EVENTS, PATIENCE, expect_answer, limits, run};
-use event_core::{LockId, Op, SiteId, ThreadId, VarId};
+use crate::scripts::{Case, EVENTS, PATIENCE, expect_answer, limits, run};
+use event_core::{LockId, SiteId, ThreadId};
 use live_monitor::{Tries, Unnamed, start};
 use log_pass::Name;
 use pass_channel::{Terms, TryRecvError, pass_channel};
-use script_drive::{DriveFault, Gate};
+use script_drive::Gate;
 use std::alloc::Global;
 use std::marker::Brand;
 use std::process::Abort;
@@ -61,68 +61,35 @@ impl Gate for After {
 /// A script with a line that waits for another, and what is answered where it is tried once, too early, and
 /// where it is tried on.
 struct Waiting {
-    name: &'static str,
     text: &'static str,
     line: u64,
     other: u64,
-    once: Answer,
-    tried_on: Answer,
+    once: &'static str,
+    tried_on: &'static str,
 }
 
 const WAITING: &[Waiting] = &[
+    // an acquire of a lock that another thread releases later
     Waiting {
-        name: "an acquire of a lock that another thread releases later",
         text: "m acq l\nm fork a\na acq l\nm rel l\nm join a\n",
         line: 3,
         other: 4,
-        once: Answer::Faults(DriveFault::Stuck {
-            thread: ThreadId(1),
-            line: 3,
-        }),
-        tried_on: Answer::Logs {
-            events: 5,
-            races: 0,
-            first: &[
-                (0, Op::Acquire(LockId(0)), 0, 0),
-                (0, Op::Fork(ThreadId(1)), 1, 0),
-                (0, Op::Release(LockId(0)), 3, 0),
-                (1, Op::Acquire(LockId(0)), 2, 0),
-                (0, Op::Join(ThreadId(1)), 4, 0),
-            ],
-        },
+        once: "Stuck { thread: ThreadId(1), line: 3 }",
+        tried_on: "5 events, 0 races\nT0 Acquire(LockId(0)) at 0: 0\nT0 Fork(ThreadId(1)) at 1: 0\n\
+            T0 Release(LockId(0)) at 3: 0\nT1 Acquire(LockId(0)) at 2: 0\nT0 Join(ThreadId(1)) at 4: 0",
     },
+    // a join of a thread that ends later
     Waiting {
-        name: "a join of a thread that ends later",
         text: "m fork a\na r x\nm join a\n",
         line: 3,
         other: 2,
-        once: Answer::Faults(DriveFault::Stuck {
-            thread: ThreadId(0),
-            line: 3,
-        }),
-        tried_on: Answer::Logs {
-            events: 3,
-            races: 0,
-            first: &[
-                (0, Op::Fork(ThreadId(1)), 0, 0),
-                (1, Op::Load(VarId(0)), 1, 0),
-                (0, Op::Join(ThreadId(1)), 2, 0),
-            ],
-        },
+        once: "Stuck { thread: ThreadId(0), line: 3 }",
+        tried_on: "3 events, 0 races\nT0 Fork(ThreadId(1)) at 0: 0\nT1 Load(VarId(0)) at 1: 0\n\
+            T0 Join(ThreadId(1)) at 2: 0",
     },
 ];
 
 impl Waiting {
-    fn case(&self, patience: u32, answer: Answer) -> Case<'static> {
-        Case {
-            name: self.name,
-            text: self.text,
-            events: EVENTS,
-            patience,
-            answer,
-        }
-    }
-
     fn gate(&self, yields: u32) -> After {
         After {
             first: self.line,
@@ -135,10 +102,13 @@ impl Waiting {
     /// The line is tried once, and is stuck where it is tried too early. Where it was not, the other line is
     /// kept back longer. For how many yields it then was.
     fn yields_until_stuck<R: Threads + Wait + Abort + Sync>(&self, rt: &R, alloc: Global) -> u32 {
-        let case = self.case(1, self.once);
+        let case = Case {
+            patience: 1,
+            ..Case::of(self.text, self.once)
+        };
         let mut yields = YIELDS;
         for _ in 0..ROUNDS {
-            if run(rt, alloc, &self.gate(yields), &case).is(&case.answer) {
+            if run(rt, alloc, &self.gate(yields), &case).text() == case.answer {
                 return yields;
             }
             yields = yields.saturating_mul(2);
@@ -152,7 +122,7 @@ impl Waiting {
 fn an_acquire_and_a_join_are_tried_again_as_long_as_patience_allows(rt: HostRuntime) {
     for waiting in WAITING {
         let yields = waiting.yields_until_stuck(&rt, rt.alloc());
-        let case = waiting.case(PATIENCE, waiting.tried_on);
+        let case = Case::of(waiting.text, waiting.tried_on);
         expect_answer(&rt, rt.alloc(), &waiting.gate(yields), &case);
     }
 }

@@ -2,45 +2,42 @@
 ghost use Rattle.std.specs.Prelude.{◌≡◌};
 ghost use Rattle.event_core.specs.declared.bounds.Roots.TheVariants.{OnlyMain};
 
-use event_core::{Event, Limits, Op, Roots, SiteId, ThreadId};
+use event_core::{Limits, Roots};
 use live_monitor::Closed;
 use rapid_text::Device;
-use script_drive::{DriveFault, Gate, Script, ScriptCause, ScriptFault, drive};
+use script_drive::{Gate, Script, ScriptFault, drive};
 use std::alloc::Global;
 use std::process::Abort;
 use std::sync::Wait;
 use std::thread::Threads;
+use test_doubles::{Page, Room, event_text};
 
-/// An event's thread, what it does, its site and its value.
-pub type Row = (u32, Op, u32, u64);
-
-/// What a run is to answer: how many events it logs, how many of them race, and the first of them. Or a
-/// fault.
-#[derive(Clone, Copy, Debug)]
-pub enum Answer {
-    Logs {
-        events: u64,
-        races: usize,
-        first: &'static [Row],
-    },
-    Faults(DriveFault),
-}
-
-/// What the case shows, the text of a script, how many events the log may have, how often a line is tried,
-/// and the answer.
+/// A script, how many events the log may have, how often a line is tried, and the answer: how many events
+/// the run logs, how many of them race, and the first of them, a line each; or the fault.
 #[derive(Clone, Copy)]
 pub struct Case<'t> {
-    pub name: &'static str,
     pub text: &'t str,
     pub events: u64,
     pub patience: u32,
-    pub answer: Answer,
+    pub answer: &'static str,
 }
 
 /// More events than the scripts have, and more tries than they need.
 pub const EVENTS: u64 = 1024;
 
 pub const PATIENCE: u32 = 100_000_000;
+
+impl<'t> Case<'t> {
+    /// A script with ample events and tries.
+    pub fn of(text: &'t str, answer: &'static str) -> Case<'t> {
+        Case {
+            text,
+            events: EVENTS,
+            patience: PATIENCE,
+            answer,
+        }
+    }
+}
 
 /// 256 threads, 4 locks, 4 variables.
 pub fn limits<R: Abort>(rt: &R, events: u64) -> Limits
@@ -56,107 +53,51 @@ pub fn read(alloc: Global, text: &str, limits: Limits) -> Result<Script, ScriptF
     Script::read(alloc, &mut Device::new(text.as_bytes()), limits, 100)
 }
 
-/// What a run came to: a log, with the first event that is not the one expected at its index; a fault; or no
-/// script.
-#[derive(Clone, Copy, Debug)]
-pub enum Came {
-    Logged {
-        events: u64,
-        races: usize,
-        other: Option<(u64, Option<Event>)>,
-    },
-    Faulted(DriveFault),
-    NoScript(ScriptFault),
-}
-
-impl Came {
-    /// Whether it is this answer.
-    pub fn is(&self, answer: &Answer) -> bool {
-        match (self, answer) {
-            (
-                Came::Logged {
-                    events,
-                    races,
-                    other,
-                },
-                Answer::Logs {
-                    events: wanted_events,
-                    races: wanted_races,
-                    first: _,
-                },
-            ) => events == wanted_events && races == wanted_races && other.is_none(),
-            (Came::Faulted(fault), Answer::Faults(wanted)) => fault == wanted,
-            _ => false,
+/// Prints how many events the log has and how many of them race, and as many of its events as the answer has.
+fn print_log(page: &mut Page, closed: Closed, answer: &str) {
+    let races = closed.verdicts().races().len();
+    page.print(format_args!("{} events, {races} races", closed.len()));
+    for (index, _) in (0u64..).zip(answer.lines().skip(1)) {
+        page.keep(b"\n");
+        match closed.log().get(index) {
+            Some(event) => page.print(event_text(&event).as_str()),
+            None => page.keep(b"no event"),
         }
     }
-
-    // Whether it is so for want of memory, for a worker's too.
-    fn is_short(&self) -> bool {
-        match self {
-            Came::Logged { .. } => false,
-            Came::Faulted(fault) => {
-                matches!(fault, DriveFault::OutOfMemory | DriveFault::NoWorker { .. })
-            }
-            Came::NoScript(fault) => fault.cause == ScriptCause::OutOfMemory,
-        }
-    }
-
-    /// Ends the test unless it is the case's answer.
-    pub fn expect(&self, rt: &impl Abort, case: &Case) {
-        if !self.is(&case.answer) {
-            panic!(rt; "{}: wanted {:?}, came {self:?}", case.name, case.answer);
-        }
-    }
-}
-
-// The first event that is not the one of its row.
-fn first_other(closed: &Closed, rows: &[Row]) -> Option<(u64, Option<Event>)> {
-    for (index, (thread, op, site, value)) in (0..).zip(rows) {
-        let event = Event {
-            thread: ThreadId(*thread),
-            op: *op,
-            site: SiteId(*site),
-            value: *value,
-        };
-        let logged = closed.log().get(index);
-        if logged != Some(event) {
-            return Some((index, logged));
-        }
-    }
-    None
-}
-
-fn logged(closed: Closed, answer: &Answer) -> Came {
-    let other = match answer {
-        Answer::Logs { first, .. } => first_other(&closed, first),
-        Answer::Faults(_) => None,
-    };
-    let came = Came::Logged {
-        events: closed.len(),
-        races: closed.verdicts().races().len(),
-        other,
-    };
     drop(closed);
-    came
 }
 
-/// Runs the script of the case.
+/// Runs the script of the case. The page has what it came to.
 pub fn run<G: Gate + Sync, R: Threads + Wait + Abort + Sync>(
     rt: &R,
     alloc: Global,
     gate: &G,
-    case: &Case,
-) -> Came {
+    case: &Case<'_>,
+) -> Page {
+    let mut page = Page::blank(Room::AMPLE);
     let limits = limits(rt, case.events);
-    let script = match read(alloc, case.text, limits) {
-        Ok(script) => script,
-        Err(fault) => return Came::NoScript(fault),
-    };
-    let ran = drive(rt, alloc, &script, limits, gate, case.patience);
-    drop(script);
-    match ran {
-        Ok(closed) => logged(closed, &case.answer),
-        Err(fault) => Came::Faulted(fault),
+    match read(alloc, case.text, limits) {
+        Ok(script) => {
+            let ran = drive(rt, alloc, &script, limits, gate, case.patience);
+            drop(script);
+            match ran {
+                Ok(closed) => print_log(&mut page, closed, case.answer),
+                Err(fault) => page.print(format_args!("{fault:?}")),
+            }
+        }
+        Err(fault) => page.print(format_args!("line {}: {:?}", fault.line, fault.cause)),
+    }
+    page
+}
+
+/// Ends the test unless the page has the answer of the case.
+pub fn expect(rt: &impl Abort, page: &Page, case: &Case<'_>) {
+    let came = page.text();
+    if came != case.answer {
+        panic!(rt;
+            "{:?}: expected {:?}, came {came:?}",
+            case.text, case.answer
+        );
     }
 }
 
@@ -165,23 +106,22 @@ pub fn expect_answer<G: Gate + Sync, R: Threads + Wait + Abort + Sync>(
     rt: &R,
     alloc: Global,
     gate: &G,
-    case: &Case,
+    case: &Case<'_>,
 ) {
-    run(rt, alloc, gate, case).expect(rt, case);
+    expect(rt, &run(rt, alloc, gate, case), case);
 }
 
-/// So it answers once memory is not refused any more, and before that by want of it.
+/// So it answers once memory is not refused any more, and before that by want of it, for a worker's too.
 pub fn expect_answer_in_the_end<G: Gate + Sync, R: Threads + Wait + Abort + Sync>(
     rt: &R,
     alloc: Global,
     gate: &G,
-    case: &Case,
+    case: &Case<'_>,
 ) {
-    let first = run(rt, alloc, gate, case);
-    let came = if first.is_short() {
-        run(rt, alloc, gate, case)
+    let page = run(rt, alloc, gate, case);
+    if page.text().ends_with("OutOfMemory") || page.text().starts_with("NoWorker") {
+        expect_answer(rt, alloc, gate, case);
     } else {
-        first
-    };
-    came.expect(rt, case);
+        expect(rt, &page, case);
+    }
 }

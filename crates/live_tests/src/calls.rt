@@ -4,9 +4,23 @@ use event_core::{Limits, LockId, Refusal, Reply, SiteId, ThreadId, VarId};
 use live_monitor::{StartFault, Unnamed};
 use log_pass::Name;
 use std::alloc::Global;
+use std::fmt::{Debug, Display};
 use std::process::Abort;
 use std::sync::Wait;
 use traced_thread::{NotJoined, TracedThread};
+
+/// Ends the test unless what came is what was expected, and prints both after what was asked.
+pub fn expect<T: Copy + PartialEq + Debug>(
+    rt: &impl Abort,
+    asked: impl Display + Drop,
+    came: T,
+    expected: T,
+) {
+    assert!(rt;
+        came == expected,
+        "{asked}: expected {expected:?}, came {came:?}"
+    );
+}
 
 /// Where the calls stand that have no site of their own.
 pub const SITE: SiteId = SiteId(7);

@@ -1,7 +1,7 @@
 //! The example at the head of live_monitor.
 ghost use Rattle.std.specs.Prelude.{◌≡◌};
 
-use crate::expected::expect;
+use crate::calls::expect;
 use event_core::{Limits, Refusal, Roots, SiteId, ThreadId, VarId};
 use live_monitor::{Closed, Unnamed, start};
 use log_pass::Name;

@@ -8,11 +8,7 @@
 #[cfg(test)]
 mod calls;
 #[cfg(test)]
-mod cases;
-#[cfg(test)]
 mod example;
-#[cfg(test)]
-mod expected;
 #[cfg(test)]
 mod name_lists;
 #[cfg(test)]
@@ -27,5 +23,7 @@ mod reports;
 mod sections;
 #[cfg(test)]
 mod threads;
+#[cfg(test)]
+mod turn_cases;
 #[cfg(test)]
 mod turns;

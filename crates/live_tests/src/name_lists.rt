@@ -1,56 +1,25 @@
 //! Lists of names.
-use crate::expected::expect;
+use crate::calls::expect;
 use crate::report_cases::NAMES;
+use NamingFault::{NoName, TooMany, Twice};
 use closed_report::{NameLists, NamingFault, names_of};
 use event_core::{Limits, Roots};
 use rapid_text::Kind;
 use std::alloc::Global;
 use std::fmt::InlineText;
+use test_doubles::rows;
 
 /// Lists that are no names, why, and what the fault says.
-const FAULTS: &[(NameLists<'static>, NamingFault, &str)] = &[
-    (
-        NameLists {
-            threads: &["main", "main"],
-            ..NAMES
-        },
-        NamingFault::Twice {
-            kind: Kind::Thread,
-            number: 1,
-        },
-        "Thread 1: the name is given twice",
-    ),
-    (
-        NameLists {
-            variables: &[""],
-            ..NAMES
-        },
-        NamingFault::NoName {
-            kind: Kind::Variable,
-            number: 0,
-        },
-        "Variable 0: the text is no name",
-    ),
-    (
-        NameLists {
-            sites: &["a", "b|c"],
-            ..NAMES
-        },
-        NamingFault::NoName {
-            kind: Kind::Site,
-            number: 1,
-        },
-        "Site 1: the text is no name",
-    ),
-    (
-        NameLists {
-            locks: &["l", "m"],
-            ..NAMES
-        },
-        NamingFault::TooMany { kind: Kind::Lock },
-        "Lock: more names than the limit",
-    ),
-];
+const FAULTS: &[(NameLists<'static>, NamingFault, &str)] = rows! {
+    NameLists { threads: &["main", "main"], ..NAMES },
+        Twice { kind: Kind::Thread, number: 1 }, "Thread 1: the name is given twice";
+    NameLists { variables: &[""], ..NAMES },
+        NoName { kind: Kind::Variable, number: 0 }, "Variable 0: the text is no name";
+    NameLists { sites: &["a", "b|c"], ..NAMES },
+        NoName { kind: Kind::Site, number: 1 }, "Site 1: the text is no name";
+    NameLists { locks: &["l", "m"], ..NAMES },
+        TooMany { kind: Kind::Lock }, "Lock: more names than the limit";
+};
 
 /// What is wrong with the lists.
 fn naming(alloc: Global, lists: &NameLists<'static>) -> Option<NamingFault> {

@@ -1,6 +1,5 @@
 //! Calls of two threads after memory was refused.
-use crate::calls::{Answer, Ask, By, SITE, make};
-use crate::expected::expect;
+use crate::calls::{Answer, Ask, By, SITE, expect, make};
 use crate::plays::{Play, closed_after};
 use Ask::{Acquire, Load, Release, Store};
 use By::{Child, Main};

@@ -3,10 +3,12 @@ use crate::calls::By;
 use Act::{Load, Store, Swap};
 use By::{Child, Main};
 use Form::{ByEvent, ByPlace};
+use ReportFault::Unnamed;
 use closed_report::{NameLists, Place, PlaceRaces, ReportFault};
 use event_core::{SiteId, VarId};
 use live_monitor::Race;
 use rapid_text::Kind;
+use test_doubles::rows;
 
 #[derive(Clone, Copy)]
 pub enum Act {
@@ -33,17 +35,17 @@ pub enum Form {
     ByPlace(&'static [PlaceRaces]),
 }
 
-/// The log, the form, the names, whether there is room for the report, the number of races or the fault that
-/// is answered, and what is written.
-pub struct Case {
-    pub name: &'static str,
-    pub log: &'static Logged,
-    pub form: Form,
-    pub lists: NameLists<'static>,
-    pub has_room: bool,
-    pub answer: Result<u64, ReportFault>,
-    pub written: &'static str,
-}
+/// What a case shows, the log, the form, the names, whether there is room for the report, the number of races
+/// or the fault that is answered, and what is written.
+pub type Case = (
+    &'static str,
+    &'static Logged,
+    Form,
+    NameLists<'static>,
+    bool,
+    Result<u64, ReportFault>,
+    &'static str,
+);
 
 pub const A: SiteId = SiteId(0);
 
@@ -97,158 +99,40 @@ const TWO_VARIABLES: NameLists<'static> = NameLists {
 };
 
 /// The places of the races: at c with b, first of x and then of y; of x at a with b, and at b with a.
-const PLACES: &[PlaceRaces] = &[
-    PlaceRaces {
-        place: Place {
-            site: C,
-            with: B,
-            var: X,
-        },
-        races: 3,
-        first: Race { event: 2, with: 1 },
-    },
-    PlaceRaces {
-        place: Place {
-            site: C,
-            with: B,
-            var: Y,
-        },
-        races: 1,
-        first: Race { event: 5, with: 4 },
-    },
-    PlaceRaces {
-        place: Place {
-            site: A,
-            with: B,
-            var: X,
-        },
-        races: 1,
-        first: Race { event: 6, with: 1 },
-    },
-    PlaceRaces {
-        place: Place {
-            site: B,
-            with: A,
-            var: X,
-        },
-        races: 1,
-        first: Race { event: 7, with: 6 },
-    },
-];
+const PLACES: &[PlaceRaces] = rows! {
+    PlaceRaces { place: Place { site: C, with: B, var: X }, races: 3, first: Race { event: 2, with: 1 } };
+    PlaceRaces { place: Place { site: C, with: B, var: Y }, races: 1, first: Race { event: 5, with: 4 } };
+    PlaceRaces { place: Place { site: A, with: B, var: X }, races: 1, first: Race { event: 6, with: 1 } };
+    PlaceRaces { place: Place { site: B, with: A, var: X }, races: 1, first: Race { event: 7, with: 6 } };
+};
 
-pub const CASES: &[Case] = &[
-    Case {
-        name: "a log without events",
-        log: EMPTY,
-        form: ByEvent,
-        lists: NAMES,
-        has_room: true,
-        answer: Ok(0),
-        written: "events 0 threads 2 locks 1 variables 1 races 0\n",
-    },
-    Case {
-        name: "two swaps",
-        log: SWAPS,
-        form: ByEvent,
-        lists: NAMES,
-        has_room: true,
-        answer: Ok(2),
-        written: "events 6 threads 2 locks 1 variables 1 races 2\n\
-            4|main|r(x)| with 3|child|w(x)|b\n5|main|w(x)| with 3|child|w(x)|b\n",
-    },
-    Case {
-        name: "a thread without a name: nothing is written",
-        log: SWAPS,
-        form: ByEvent,
-        lists: NameLists {
-            threads: &["main"],
-            ..NAMES
-        },
-        has_room: true,
-        answer: Err(ReportFault::Unnamed {
-            kind: Kind::Thread,
-            number: 1,
-            event: 0,
-        }),
-        written: "",
-    },
-    Case {
-        name: "a variable without a name",
-        log: SWAPS,
-        form: ByEvent,
-        lists: NameLists {
-            variables: &[],
-            ..NAMES
-        },
-        has_room: true,
-        answer: Err(ReportFault::Unnamed {
-            kind: Kind::Variable,
-            number: 0,
-            event: 1,
-        }),
-        written: "",
-    },
-    Case {
-        name: "a site without a name",
-        log: SWAPS,
-        form: ByEvent,
-        lists: NameLists {
-            sites: &["a", "b"],
-            ..NAMES
-        },
-        has_room: true,
-        answer: Err(ReportFault::Unnamed {
-            kind: Kind::Site,
-            number: 2,
-            event: 3,
-        }),
-        written: "",
-    },
-    Case {
-        name: "a report that is not taken",
-        log: SWAPS,
-        form: ByEvent,
-        lists: NAMES,
-        has_room: false,
-        answer: Err(ReportFault::Write),
-        written: "",
-    },
-    Case {
-        name: "races by place",
-        log: ACCESSES,
-        form: ByPlace(PLACES),
-        lists: TWO_VARIABLES,
-        has_room: true,
-        answer: Ok(6),
-        written: "events 10 threads 2 locks 1 variables 2 races 6\n\
-            races 3 first 3|main|w(x)|c with 2|child|w(x)|b\n\
-            races 1 first 6|main|w(y)|c with 5|child|w(y)|b\n\
-            races 1 first 7|main|w(x)|a with 2|child|w(x)|b\n\
-            races 1 first 8|child|w(x)|b with 7|main|w(x)|a\n",
-    },
-    Case {
-        name: "a report by place that is not taken",
-        log: ACCESSES,
-        form: ByPlace(PLACES),
-        lists: TWO_VARIABLES,
-        has_room: false,
-        answer: Err(ReportFault::Write),
-        written: "",
-    },
-    Case {
-        name: "races by place, and a variable without a name",
-        log: ACCESSES,
-        form: ByPlace(PLACES),
-        lists: NameLists {
-            variables: &["x"],
-            ..TWO_VARIABLES
-        },
-        has_room: true,
-        answer: Err(ReportFault::Unnamed {
-            kind: Kind::Variable,
-            number: 1,
-            event: 4,
-        }),
-        written: "",
-    },
-];
+const CASES: &[Case] = rows! {
+    "a log without events", EMPTY, ByEvent, NAMES, true, Ok(0),
+        "events 0 threads 2 locks 1 variables 1 races 0\n";
+    "two swaps", SWAPS, ByEvent, NAMES, true, Ok(2),
+        "events 6 threads 2 locks 1 variables 1 races 2\n\
+        4|main|r(x)| with 3|child|w(x)|b\n5|main|w(x)| with 3|child|w(x)|b\n";
+    "a thread without a name: nothing is written",
+        SWAPS, ByEvent, NameLists { threads: &["main"], ..NAMES }, true,
+        Err(Unnamed { kind: Kind::Thread, number: 1, event: 0 }), "";
+    "a variable without a name", SWAPS, ByEvent, NameLists { variables: &[], ..NAMES }, true,
+        Err(Unnamed { kind: Kind::Variable, number: 0, event: 1 }), "";
+    "a site without a name", SWAPS, ByEvent, NameLists { sites: &["a", "b"], ..NAMES }, true,
+        Err(Unnamed { kind: Kind::Site, number: 2, event: 3 }), "";
+    "a report that is not taken", SWAPS, ByEvent, NAMES, false, Err(ReportFault::Write), "";
+    "races by place", ACCESSES, ByPlace(PLACES), TWO_VARIABLES, true, Ok(6),
+        "events 10 threads 2 locks 1 variables 2 races 6\n\
+        races 3 first 3|main|w(x)|c with 2|child|w(x)|b\n\
+        races 1 first 6|main|w(y)|c with 5|child|w(y)|b\n\
+        races 1 first 7|main|w(x)|a with 2|child|w(x)|b\n\
+        races 1 first 8|child|w(x)|b with 7|main|w(x)|a\n";
+    "a report by place that is not taken", ACCESSES, ByPlace(PLACES), TWO_VARIABLES, false,
+        Err(ReportFault::Write), "";
+    "races by place, and a variable without a name",
+        ACCESSES, ByPlace(PLACES), NameLists { variables: &["x"], ..TWO_VARIABLES }, true,
+        Err(Unnamed { kind: Kind::Variable, number: 1, event: 4 }), "";
+};
+
+pub fn cases() -> &'static [Case] {
+    CASES
+}

@@ -1,22 +1,19 @@
 //! Reports of closed logs.
-use crate::calls::By;
-use crate::expected::expect;
+use crate::calls::{By, expect};
 use crate::plays::{Play, closed_after};
-use crate::report_cases::{A, Act, CASES, Case, Form, Line, Logged};
+use crate::report_cases::{A, Act, Case, Form, Line, Logged, cases};
 use closed_report::{
-    Names, PlaceRaces, ReportFault, Summary, names_of, races_by_place, report_closed, report_places,
+    NameLists, Names, PlaceRaces, ReportFault, Summary, names_of, races_by_place, report_closed,
+    report_places,
 };
 use event_core::{Limits, Roots, SiteId, ThreadId, VarId};
 use live_monitor::{Closed, Unnamed};
 use log_pass::Name;
-use rapid_text::{Device, Output};
 use std::alloc::Global;
 use std::process::Abort;
 use std::sync::Wait;
+use test_doubles::{Page, Room};
 use traced_thread::TracedThread;
-
-/// More bytes than any of these reports has.
-const SIZE: usize = 512;
 
 /// Makes the call. One that is refused has no event.
 fn make_call<N: Name, R: Wait>(
@@ -62,96 +59,84 @@ impl<R: Wait + Abort> Play<R> for Logged {
 }
 
 /// The log is reported by its places, which are as expected; none where memory ran out.
-fn report_by_place<W: Output, R: Abort>(
+fn report_by_place<R: Abort>(
     rt: &R,
     alloc: Global,
-    case: &Case,
     expected: &'static [PlaceRaces],
     closed: &Closed,
     names: &Names,
-    writer: &mut W,
+    page: &mut Page,
 ) -> Option<Result<Summary, ReportFault>> {
     let places = races_by_place(alloc, closed).ok()?;
-    expect(rt, case.name, places.as_slice(), expected);
-    let answer = report_places(writer, closed, &places, names);
+    expect(rt, "places", places.as_slice(), expected);
+    let answer = report_places(page, closed, &places, names);
     drop(places);
     Some(answer)
 }
 
 /// What is answered where the log is reported as the case says; none where memory ran out.
-fn report<W: Output, R: Abort>(
+fn report<R: Abort>(
     rt: &R,
     alloc: Global,
     limits: Limits,
-    case: &Case,
+    (form, lists): (Form, &NameLists<'static>),
     closed: &Closed,
-    writer: &mut W,
+    page: &mut Page,
 ) -> Option<Result<Summary, ReportFault>> {
-    let names = names_of(alloc, limits, &case.lists).ok()?;
-    let answer = match case.form {
-        Form::ByEvent => Some(report_closed(writer, closed, &names)),
-        Form::ByPlace(places) => {
-            report_by_place(rt, alloc, case, places, closed, &names, writer)
-        }
+    let names = names_of(alloc, limits, lists).ok()?;
+    let answer = match form {
+        Form::ByEvent => Some(report_closed(page, closed, &names)),
+        Form::ByPlace(places) => report_by_place(rt, alloc, places, closed, &names, page),
     };
     drop(names);
     answer
 }
-
-/// The number of races that are reported, or why there is no report; none where memory ran out.
-fn reported<W: Output, R: Wait + Abort>(
+/// What is answered of the log of the case; none where memory ran out.
+fn reported<R: Wait + Abort>(
     rt: &R,
     alloc: Global,
-    case: &Case,
-    writer: &mut W,
-) -> Option<Result<u64, ReportFault>> {
-    let limits = Limits::new(2, 1, case.log.variables, 16, Roots::OnlyMain).ok()?;
+    (log, form, lists): (&'static Logged, Form, &NameLists<'static>),
+    page: &mut Page,
+) -> Option<Result<Summary, ReportFault>> {
+    let limits = Limits::new(2, 1, log.variables, 16, Roots::OnlyMain).ok()?;
     let unnamed = Unnamed::new(alloc, limits).ok()?;
-    let closed = closed_after(rt, unnamed, case.log);
-    let answer = if closed.len() == case.log.events {
-        report(rt, alloc, limits, case, &closed, writer)
+    let closed = closed_after(rt, unnamed, log);
+    let answer = if closed.len() == log.events {
+        report(rt, alloc, limits, (form, lists), &closed, page)
     } else {
         None
     };
     drop(closed);
-    match answer {
-        Some(Ok(summary)) => Some(Ok(summary.races)),
-        Some(Err(fault)) => Some(Err(fault)),
-        None => None,
-    }
-}
-
-/// What is written on a page of spaces.
-fn text_on(page: &[u8]) -> &str {
-    str::from_utf8(page)
-        .unwrap_or("no text")
-        .trim_end_matches(' ')
+    answer
 }
 
 /// The log is reported so, or memory ran out where it may be refused.
 fn expect_report<R: Wait + AllocGlobal + Abort>(rt: &R, case: &Case, may_be_refused: bool) {
-    let mut page = [b' '; SIZE];
-    let room = if case.has_room { SIZE } else { 0 };
-    let mut writer = Device::new(&mut page[..room]);
-    let answer = reported(rt, rt.alloc(), case, &mut writer);
-    drop(writer);
+    let (name, log, form, lists, has_room, wanted, written) = case;
+    let mut page = Page::blank(if *has_room {
+        Room::AMPLE
+    } else {
+        Room::of(1, 0)
+    });
+    let answer = reported(rt, rt.alloc(), (log, *form, lists), &mut page);
     if answer.is_none() && may_be_refused {
         return;
     }
-    expect(rt, case.name, answer, Some(case.answer));
-    expect(rt, case.name, text_on(&page), case.written);
+    let came = answer.map(|answer| answer.map(|summary| summary.races));
+    expect(rt, *name, came, Some(*wanted));
+    expect(rt, *name, page.text(), *written);
 }
 
 #[test]
 fn a_closed_log_is_reported_with_the_names_of_its_numbers(rt: HostRuntime) {
-    for case in CASES {
+    for case in cases() {
         expect_report(&rt, case, false);
     }
 }
 
 #[test]
 fn a_closed_log_is_reported_where_memory_is_refused(rt: HostRuntime) {
-    for case in CASES {
+    for case in cases() {
         expect_report(&rt, case, true);
     }
 }

@@ -1,6 +1,5 @@
 //! Sections of a thread's handle.
-use crate::calls::{begin, fork};
-use crate::expected::expect;
+use crate::calls::{begin, expect, fork};
 use crate::plays::{Play, closed_after};
 use event_core::{Event, Limits, LockId, Op, Refusal, Roots, SiteId, ThreadId, VarId};
 use live_monitor::Tries;

@@ -1,8 +1,7 @@
 //! Four threads that call the monitor at once.
 ghost use Rattle.std.specs.Prelude.{◌≡◌};
 
-use crate::calls::{Ask, SITE, begin, fork, join, make};
-use crate::expected::expect;
+use crate::calls::{Ask, SITE, begin, expect, fork, join, make};
 use event_core::{
     Call, Event, Limits, LockId, Log, Op, Reply, Roots, SiteId, ThreadId, VarId, Verdict,
 };

@@ -1,205 +1,171 @@
 //! Turns of two threads, whose handles are in one hand.
-use crate::calls::{Answer, Ask, SITE, begin, fork, join, make};
-use crate::cases::CASES;
-use crate::expected::{Place, expect};
+use crate::calls::{Answer, Ask, By, SITE, begin, expect, fork, join, make};
 use crate::plays::{Play, closed_after};
-use Deed::{Accepted, Found, Read, Refused, Swapped, Tried};
-use Turn::{Child, DropChild, Fork, Join, Main, NotJoined};
-use event_core::{
-    Event, Limits, LockId, Refusal, Reply, Roots, SwapReply, ThreadId, VarId, Verdict,
-};
+use crate::turn_cases::cases;
+use By::{Child, Main};
+use Deed::{Call, Drop, Fork, Join, JoinInVain, Look, Read, Swap, Try};
+use event_core::{Limits, LockId, Refusal, Roots, ThreadId, VarId, Verdict};
 use live_monitor::{Closed, StartFault, Tries, Unnamed};
 use log_pass::Name;
-use seq_monitor::Race;
 use std::alloc::Global;
+use std::fmt::InlineText;
 use std::process::Abort;
 use std::sync::Wait;
+use test_doubles::{Page, Room, event_text};
 use traced_thread::TracedThread;
 
-/// What a thread does, and how it is answered.
+/// What a thread does.
 #[derive(Clone, Copy)]
 pub enum Deed {
-    /// It asks, and is answered the index, the value and the verdict.
-    Accepted(Ask, u64, u64, Verdict),
-    Refused(Ask, Refusal),
+    Call(Ask),
     /// It swaps the value into variable 0.
-    Swapped(u64, Result<SwapReply, Refusal>),
-    /// So often it asks for lock 0, within so many tries each time, and is answered the index or the refusal
-    /// after so many tries.
-    Tried(u32, u32, Result<u64, Refusal>, u32),
+    Swap(u64),
+    /// So often it asks for lock 0, within so many tries each time.
+    Try { times: u32, most: u32 },
     /// It finds so many events.
-    Found(u64),
+    Look,
     /// It reads the event at the index.
-    Read(u64, Option<Event>),
+    Read(u64),
+    /// Thread 0 forks or joins thread 1. Or it is refused the join, and has the handle back.
+    Fork,
+    Join,
+    JoinInVain,
+    /// The handle of thread 1 is dropped.
+    Drop,
 }
 
-/// What thread 0 does, or thread 1, or that thread 0 forks or joins thread 1, with the index. Or that it is
-/// refused the join, and has the handle back. Or that the handle of thread 1 is dropped.
-#[derive(Clone, Copy)]
-pub enum Turn {
-    Main(Deed),
-    Child(Deed),
-    Fork(u64),
-    Join(u64),
-    NotJoined(Refusal),
-    DropChild,
-}
+/// Who does what, and the answer: an index, a value and a verdict; or the refusal.
+pub type Turn = (By, Deed, &'static str);
 
-/// How many locks there are, and as many variables, the room for events, what the two threads do, how many
-/// events the log then has, and its races.
-pub struct Case {
-    pub name: &'static str,
-    pub locks_and_variables: u32,
-    pub room: u64,
-    pub turns: &'static [Turn],
-    pub events: u64,
-    pub races: &'static [Race],
-}
+/// What a case shows, how many locks there are, and as many variables, the room for events, what the two
+/// threads do, and how many events the log then has, with its races.
+pub type Case = (&'static str, u32, u64, &'static [Turn], &'static str);
 
-/// Asks, and once more where that is out of memory and is to be asked again. A release takes no memory.
-fn answer_to<N: Name, R: Wait>(
-    rt: &R,
-    thread: &mut TracedThread<N>,
-    ask: Ask,
-    asks_again: bool,
-) -> Answer {
-    match make(rt, thread, ask, SITE) {
-        Err(Refusal::OutOfMemory) if asks_again && !matches!(ask, Ask::Release(_)) => {
-            make(rt, thread, ask, SITE)
+/// An answer as text.
+type AnswerText = InlineText<96>;
+
+fn reply_text(answer: Answer) -> AnswerText {
+    match answer {
+        Ok(reply) => {
+            AnswerText::of(format_args!("{}: {} {:?}", reply.index, reply.value, reply.verdict))
         }
-        answer => answer,
+        Err(refusal) => AnswerText::of(format_args!("{refusal:?}")),
     }
 }
 
-/// Swaps the value into variable 0.
-fn swap<N: Name, R: Wait>(
-    rt: &R,
-    thread: &mut TracedThread<N>,
-    value: u64,
-    asks_again: bool,
-) -> Result<SwapReply, Refusal> {
+fn swap<N: Name, R: Wait>(rt: &R, thread: &mut TracedThread<N>, value: u64) -> AnswerText {
     match thread.swap(rt, VarId(0), value, SITE) {
-        Err(Refusal::OutOfMemory) if asks_again => thread.swap(rt, VarId(0), value, SITE),
-        answer => answer,
+        Ok(reply) => AnswerText::of(format_args!(
+            "{}: {} {:?} {:?}",
+            reply.index, reply.value, reply.load, reply.store
+        )),
+        Err(refusal) => AnswerText::of(format_args!("{refusal:?}")),
     }
 }
 
-/// Acquires lock 0 within so many tries: the index, and how many were made.
-fn try_once<N: Name, R: Wait>(
-    rt: &R,
-    thread: &mut TracedThread<N>,
-    most: u32,
-) -> (Result<u64, Refusal>, u32) {
+/// Acquires lock 0 within so many tries: the index or the refusal, and how many were made.
+fn attempt<N: Name, R: Wait>(rt: &R, thread: &mut TracedThread<N>, most: u32) -> AnswerText {
     let mut tries = Tries::of(most);
-    let answer = thread.acquire_within(rt, LockId(0), SITE, &mut tries);
-    (answer.map(|reply| reply.index), tries.made())
-}
-
-fn try_within<N: Name, R: Wait>(
-    rt: &R,
-    thread: &mut TracedThread<N>,
-    most: u32,
-    asks_again: bool,
-) -> (Result<u64, Refusal>, u32) {
-    match try_once(rt, thread, most) {
-        (Err(Refusal::OutOfMemory), _) if asks_again => try_once(rt, thread, most),
-        came => came,
+    match thread.acquire_within(rt, LockId(0), SITE, &mut tries) {
+        Ok(reply) => AnswerText::of(format_args!("{}, {} tries", reply.index, tries.made())),
+        Err(refusal) => AnswerText::of(format_args!("{refusal:?}, {} tries", tries.made())),
     }
 }
 
-/// The thread is answered as the deed says.
-fn take<N: Name, R: Wait + Abort>(
+/// What the thread is answered.
+fn answer<N: Name, R: Wait>(rt: &R, thread: &mut TracedThread<N>, deed: Deed) -> AnswerText {
+    match deed {
+        Call(ask) => reply_text(make(rt, thread, ask, SITE)),
+        Swap(value) => swap(rt, thread, value),
+        Try { most, .. } => attempt(rt, thread, most),
+        Look => AnswerText::of(format_args!("{} events", thread.look())),
+        Read(index) => match thread.event_at(rt, index) {
+            Some(event) => event_text(&event),
+            None => AnswerText::of("none"),
+        },
+        Fork | Join | JoinInVain | Drop => AnswerText::of("no call"),
+    }
+}
+
+/// The same, asked once more where that is out of memory and is to be asked again. A release takes no memory.
+fn answer_in_the_end<N: Name, R: Wait>(
     rt: &R,
-    place: Place,
     thread: &mut TracedThread<N>,
     deed: Deed,
     asks_again: bool,
-) {
-    match deed {
-        Accepted(ask, index, value, verdict) => {
-            let reply = Reply {
-                index,
-                value,
-                verdict,
-            };
-            expect(rt, place, answer_to(rt, thread, ask, asks_again), Ok(reply));
-        }
-        Refused(ask, refusal) => {
-            let came = answer_to(rt, thread, ask, asks_again);
-            expect(rt, place, came, Err(refusal));
-        }
-        Swapped(value, answer) => expect(rt, place, swap(rt, thread, value, asks_again), answer),
-        Tried(times, most, answer, made) => {
-            for _ in 0..times {
-                let came = try_within(rt, thread, most, asks_again);
-                expect(rt, place, came, (answer, made));
-            }
-        }
-        Found(count) => expect(rt, place, thread.look(), count),
-        Read(index, event) => expect(rt, place, thread.event_at(rt, index), event),
+) -> AnswerText {
+    let text = answer(rt, thread, deed);
+    let is_release = matches!(deed, Call(Ask::Release(_)));
+    if asks_again && !is_release && text.as_str().starts_with("OutOfMemory") {
+        answer(rt, thread, deed)
+    } else {
+        text
     }
 }
 
-/// What a fork and a join are answered.
-fn at(index: u64) -> Reply {
-    Reply {
-        index,
-        value: 0,
-        verdict: Verdict::Clear,
+/// The answer of the thread, or the first other one where it asks more than once.
+fn take<N: Name, R: Wait>(
+    rt: &R,
+    thread: &mut TracedThread<N>,
+    deed: Deed,
+    asks_again: bool,
+) -> AnswerText {
+    let text = answer_in_the_end(rt, thread, deed, asks_again);
+    let times = if let Try { times, .. } = deed {
+        times
+    } else {
+        1
+    };
+    for _ in 1..times {
+        let next = answer_in_the_end(rt, thread, deed, asks_again);
+        if next.as_str() != text.as_str() {
+            return next;
+        }
     }
+    text
 }
 
 /// The join is refused, and the handle of thread 1 is given back.
-fn expect_not_joined<'m, N: Name, R: Wait + Abort>(
+fn join_in_vain<'m, N: Name, R: Wait + Abort>(
     rt: &R,
-    place: Place,
     main: &mut TracedThread<'m, N>,
     child: TracedThread<'m, N>,
-    refusal: Refusal,
-) {
+) -> AnswerText {
     let left = main.join(rt, child, SITE).err().expect(rt, "a refusal");
-    let came = (left.child.thread(), left.refusal);
-    expect(rt, place, came, (ThreadId(1), refusal));
-    expect(rt, place, Refusal::from(left), refusal);
+    expect(rt, "the handle", left.child.thread(), ThreadId(1));
+    let refusal = left.refusal;
+    expect(rt, "the refusal", Refusal::from(left), refusal);
+    reply_text(Err(refusal))
 }
 
 /// Takes the turn. There is a handle of thread 1 while that runs.
 fn take_turn<'m, N: Name, R: Wait + Abort>(
     rt: &R,
-    place: Place,
     main: &mut TracedThread<'m, N>,
     child: Option<TracedThread<'m, N>>,
-    turn: Turn,
+    (by, deed): (By, Deed),
     asks_again: bool,
-) -> Option<TracedThread<'m, N>> {
-    match turn {
-        Main(deed) => {
-            take(rt, place, main, deed, asks_again);
-            child
-        }
-        Child(deed) => {
-            let mut child = child.expect(rt, "the child");
-            take(rt, place, &mut child, deed, asks_again);
-            Some(child)
-        }
-        Fork(index) => {
+) -> (Option<TracedThread<'m, N>>, AnswerText) {
+    match (by, deed) {
+        (_, Fork) => {
             let (child, reply) = fork(rt, main, ThreadId(1), asks_again);
-            expect(rt, place, reply, at(index));
-            Some(child)
+            (Some(child), reply_text(Ok(reply)))
         }
-        Join(index) => {
+        (_, Join) => {
             let mut child = child.expect(rt, "the child");
             main.meet(&mut child);
-            expect(rt, place, join(rt, main, child, asks_again), at(index));
-            None
+            (None, reply_text(Ok(join(rt, main, child, asks_again))))
         }
-        NotJoined(refusal) => {
-            expect_not_joined(rt, place, main, child.expect(rt, "the child"), refusal);
-            None
-        }
-        DropChild => {
+        (_, JoinInVain) => (None, join_in_vain(rt, main, child.expect(rt, "the child"))),
+        (_, Drop) => {
             drop(child.expect(rt, "the child"));
-            None
+            (None, AnswerText::of("dropped"))
+        }
+        (Main, _) => (child, take(rt, main, deed, asks_again)),
+        (Child, _) => {
+            let mut child = child.expect(rt, "the child");
+            let text = take(rt, &mut child, deed, asks_again);
+            (Some(child), text)
         }
     }
 }
@@ -207,57 +173,68 @@ fn take_turn<'m, N: Name, R: Wait + Abort>(
 /// The turns of a case.
 #[derive(Clone, Copy)]
 struct Turns {
-    case: &'static Case,
+    name: &'static str,
+    turns: &'static [Turn],
     asks_again: bool,
 }
 
 impl<R: Wait + Abort> Play<R> for Turns {
     fn play<N: Name>(&self, rt: &R, main: &mut TracedThread<N>) {
         let mut child = None;
-        for (turn, taken) in (0u64..).zip(self.case.turns) {
-            let place = Place {
-                case: self.case.name,
-                turn,
-            };
-            child = take_turn(rt, place, main, child, *taken, self.asks_again);
+        for (turn, (by, deed, wanted)) in (0u64..).zip(self.turns) {
+            let (left, text) = take_turn(rt, main, child, (*by, *deed), self.asks_again);
+            child = left;
+            let asked = format_args!("{}, turn {turn}", self.name);
+            expect(rt, asked, text.as_str(), *wanted);
         }
         drop(child);
     }
 }
 
-/// The log has the events and the races of the case.
-fn expect_closed<R: Abort>(rt: &R, closed: &Closed, case: &Case) {
-    let lengths = (closed.len(), closed.log().len());
-    expect(rt, case.name, lengths, (case.events, case.events));
-    expect(rt, case.name, closed.verdicts().races(), case.races);
-    for race in case.races {
+/// The log has these events and races. The verdicts say the same.
+fn expect_closed<R: Abort>(rt: &R, closed: &Closed, name: &'static str, wanted: &str) {
+    let mut page = Page::blank(Room::AMPLE);
+    page.print(format_args!("{} events", closed.log().len()));
+    for race in closed.verdicts().races() {
+        page.print(format_args!(", {} with {}", race.event, race.with));
         if race.event < closed.len() {
             let verdict = closed.verdict_at(race.event);
-            expect(rt, case.name, verdict, Verdict::Racy(race.with));
+            expect(rt, name, verdict, Verdict::Racy(race.with));
         }
     }
+    expect(rt, name, page.text(), wanted);
+    expect(rt, name, closed.len(), closed.log().len());
 }
 
-fn expect_case<R: Wait + Abort>(rt: &R, alloc: Global, case: &'static Case, asks_again: bool) {
-    let names = case.locks_and_variables;
-    let limits = Limits::new(2, names, names, case.room, Roots::OnlyMain).expect(rt, "limits");
+fn expect_case<R: Wait + Abort>(
+    rt: &R,
+    alloc: Global,
+    (name, names, room, turns, wanted): Case,
+    asks_again: bool,
+) {
+    let limits = Limits::new(2, names, names, room, Roots::OnlyMain).expect(rt, "limits");
     let unnamed = begin(rt, alloc, limits, asks_again);
-    let closed = closed_after(rt, unnamed, &Turns { case, asks_again });
-    expect_closed(rt, &closed, case);
+    let play = Turns {
+        name,
+        turns,
+        asks_again,
+    };
+    let closed = closed_after(rt, unnamed, &play);
+    expect_closed(rt, &closed, name, wanted);
     drop(closed);
 }
 
 #[test]
 fn each_turn_of_two_threads_is_answered_as_its_case_says(rt: HostRuntime) {
-    for case in CASES {
-        expect_case(&rt, rt.alloc(), case, false);
+    for case in cases() {
+        expect_case(&rt, rt.alloc(), *case, false);
     }
 }
 
 #[test]
 fn each_turn_is_answered_as_its_case_says_where_memory_is_refused(rt: HostRuntime) {
-    for case in CASES {
-        expect_case(&rt, rt.alloc(), case, true);
+    for case in cases() {
+        expect_case(&rt, rt.alloc(), *case, true);
     }
 }
 

@@ -1,32 +1,16 @@
 //! What ends a test.
-use std::fmt;
-use std::fmt::{Debug, Display, Formatter, Write};
+use std::fmt::Debug;
 use std::process::Abort;
 
-/// A row of a case, by its number from 0 on.
-#[derive(Clone, Copy)]
-pub struct Place {
-    pub case: &'static str,
-    pub row: u64,
-}
-
-impl Display for Place {
-    fn fmt<W: Write>(&self, f: &mut Formatter<W>) -> fmt::Result {
-        let case = self.case;
-        let row = self.row;
-        write!(f, "{case}, row {row}")
-    }
-}
-
-/// Ends the test unless what came is what was expected, and prints both after what was asked.
+/// Ends the test unless what came is what was wanted, and prints both after the place. A library ends no
+/// program, so each crate of tests has this function of its own.
 pub fn expect<T: Copy + PartialEq + Debug>(
     rt: &impl Abort,
-    asked: impl Display + Drop,
+    place: &impl Debug,
     came: T,
-    expected: T,
+    wanted: T,
 ) {
-    assert!(rt;
-        came == expected,
-        "{asked}: expected {expected:?}, came {came:?}"
-    );
+    if came != wanted {
+        panic!(rt; "{place:?}: wanted {wanted:?}, came {came:?}")
+    }
 }

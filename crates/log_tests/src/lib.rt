@@ -10,6 +10,8 @@ mod expected;
 #[cfg(test)]
 mod logged;
 #[cfg(test)]
+mod made;
+#[cfg(test)]
 mod memory;
 #[cfg(test)]
 mod passes;

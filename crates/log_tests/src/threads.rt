@@ -3,9 +3,9 @@ ghost use Rattle.std.specs.Prelude.{◌≡◌, [], None};
 ghost use Rattle.event_core.specs.Steps.{log_of};
 ghost use Rattle.traced_mem.specs.Standing.{StandsFor};
 
-use super::expected::expect;
 use super::logged::{limits, memory, perform, perform_fork};
 use super::passes::expect_found;
+use crate::expected::expect;
 use event_core::{Op, ThreadId, VarId};
 use log_pass::{Blank, Keeper, Name, Pass, Published};
 use std::alloc::{AllocError, Global};
@@ -133,9 +133,9 @@ fn look_beside_stores<N: Name + Send + Sync, R: Threads + Abort + Sync>(
         drop(pass);
         return Err(AllocError);
     };
-    expect(rt, "threads that looked", looked.len(), 8);
+    expect(rt, &"threads that looked", looked.len(), 8);
     let (pass, fall) = meets(published, pass, looked);
-    expect(rt, "a number that goes back", fall, None);
+    expect(rt, &"a number that goes back", fall, None);
     let pass = expect_found(rt, published, pass, "a look after the stores", 108);
     drop(pass);
     Ok(())

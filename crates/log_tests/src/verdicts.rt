@@ -15,52 +15,29 @@ const VERDICTS: &[Verdict] = &[
 
 const RACES: &[Race] = &[Race { event: 1, with: 0 }, Race { event: 4, with: 3 }];
 
-/// Room is made before verdicts are added.
-fn expect_room(rt: &impl Abort, verdicts: &mut Verdicts, asks_again: bool) {
-    expect(
-        rt,
-        "an empty list",
-        (verdicts.len(), verdicts.has_room(1)),
-        (0, false),
-    );
+/// A new list makes room, takes the verdicts, tells each, and lists the races in the order of the log.
+fn expect_kept(rt: &impl Abort, alloc: Global, asks_again: bool) {
+    let mut verdicts = Verdicts::new(alloc);
+    let empty = (verdicts.len(), verdicts.has_room(1));
+    expect(rt, &"an empty list", empty, (0, false));
     let made = match verdicts.reserve(5) {
         Err(OutOfMemory) if asks_again => verdicts.reserve(5),
         made => made,
     };
-    expect(rt, "room for five verdicts", made, Ok(()));
-    expect(
-        rt,
-        "a list with room",
-        (verdicts.len(), verdicts.has_room(5)),
-        (0, true),
-    );
-}
-
-/// Adds the verdicts, one after another, as far as there is room.
-fn add_all(verdicts: &mut Verdicts) {
+    expect(rt, &"room for five verdicts", made, Ok(()));
+    let roomy = (verdicts.len(), verdicts.has_room(5));
+    expect(rt, &"a list with room", roomy, (0, true));
     for verdict in VERDICTS {
         if verdicts.len() < 5 && verdicts.has_room(1) {
             verdicts.push(*verdict);
         }
     }
-}
-
-/// Each verdict is named by the index of its event.
-fn expect_all(rt: &impl Abort, verdicts: &Verdicts) {
-    expect(rt, "a list of five", verdicts.len(), 5);
+    expect(rt, &"a list of five", verdicts.len(), 5);
     for (index, verdict) in (0u64..).zip(VERDICTS) {
         let came = (index < verdicts.len()).then(|| verdicts.at(index));
-        expect(rt, format_args!("verdict {index}"), came, Some(*verdict));
+        expect(rt, &("verdict", index), came, Some(*verdict));
     }
-}
-
-/// A new list makes room, takes the verdicts, tells each, and lists the races in the order of the log.
-fn expect_kept(rt: &impl Abort, alloc: Global, asks_again: bool) {
-    let mut verdicts = Verdicts::new(alloc);
-    expect_room(rt, &mut verdicts, asks_again);
-    add_all(&mut verdicts);
-    expect_all(rt, &verdicts);
-    expect(rt, "the races", verdicts.races(), RACES);
+    expect(rt, &"the races", verdicts.races(), RACES);
     drop(verdicts);
 }
 

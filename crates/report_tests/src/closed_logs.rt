@@ -1,7 +1,5 @@
 //! The log that a script's threads leave: its events, written line by line with the names of the script.
-use crate::doubles::{Page, Room, Text};
-use crate::expected::expect;
-use crate::runs::{REPLAY, Run, SCRIPT};
+use crate::runs::{Answer, REPLAY, Run, SCRIPT, expect};
 use closed_report::is_named;
 use event_core::{Limits, Roots, ThreadId};
 use live_monitor::Closed;
@@ -13,6 +11,7 @@ use std::sync::Wait;
 use std::sync::atomic::{AtomicBool, Ordering};
 use std::thread;
 use std::thread::Threads;
+use test_doubles::{Page, Room, Text, rows};
 use wcp_tool::ScriptFiles;
 
 /// A script, the logs that its threads may leave, and their report.
@@ -24,27 +23,18 @@ struct Case {
     report: &'static str,
 }
 
-const CASES: &[Case] = &[
-    Case {
-        script: "m fork a\na w x 5\nm join a\nm r x\n",
-        patience: 1000000,
+const CASES: &[Case] = rows! {
+    Case { script: "m fork a\na w x 5\nm join a\nm r x\n", patience: 1000000,
         logs: &["m|fork(a)|1\na|w(x)|2\nm|join(a)|3\nm|r(x)|4\n"],
-        report: "events 4 threads 2 locks 0 variables 1 races 0\n",
-    },
+        report: "events 4 threads 2 locks 0 variables 1 races 0\n" };
     // The events of a swap stand at one place.
-    Case {
-        script: "m fork a\na swap x 4\nm join a\nm swap x 5\n",
-        patience: 1000000,
+    Case { script: "m fork a\na swap x 4\nm join a\nm swap x 5\n", patience: 1000000,
         logs: &["m|fork(a)|1\na|r(x)|2\na|w(x)|2\nm|join(a)|3\nm|r(x)|4\nm|w(x)|4\n"],
-        report: "events 6 threads 2 locks 0 variables 1 races 0\n",
-    },
-    Case {
-        script: "\nm acq l\r\nm acq l\nm rel l",
-        patience: 1000000,
+        report: "events 6 threads 2 locks 0 variables 1 races 0\n" };
+    Case { script: "\nm acq l\r\nm acq l\nm rel l", patience: 1000000,
         logs: &["m|acq(l)|2\nm|acq(l)|3\nm|rel(l)|4\n"],
-        report: "events 3 threads 1 locks 1 variables 0 races 0\n",
-    },
-];
+        report: "events 3 threads 1 locks 1 variables 0 races 0\n" };
+};
 
 /// Lines 2 and 3 may come in either order.
 const OVERLAP: Case = Case {
@@ -114,7 +104,7 @@ fn expect_log<G: Gate + Sync, R: Abort + AllocGlobal + ScriptFiles + Threads + W
     let known = log_like(case.logs, log);
     expect(rt, case.script, &(written, log), &(Ok(true), known));
     let run = Run::of(REPLAY, Text::whole(page.bytes()));
-    run.expect(rt, case.script, case.report, "", 0);
+    run.expect(rt, Answer::of(case.report, 0));
 }
 
 /// And so does a run of the script.
@@ -123,7 +113,7 @@ fn a_closed_log_is_replayed_to_the_report_of_its_script(rt: HostRuntime) {
     for case in CASES {
         expect_log(&rt, case, &FreeGate);
         let run = Run::of(SCRIPT, Text::whole(case.script.as_bytes()));
-        run.expect(&rt, case.script, case.report, "", 0);
+        run.expect(&rt, Answer::of(case.report, 0));
     }
 }
 

@@ -6,19 +6,11 @@
 #![tactic(auto)]
 
 #[cfg(test)]
-mod beginnings;
-#[cfg(test)]
 mod closed_logs;
 #[cfg(test)]
 mod command_lines;
 #[cfg(test)]
-mod commands;
-#[cfg(test)]
 mod devices;
-#[cfg(test)]
-mod doubles;
-#[cfg(test)]
-mod expected;
 #[cfg(test)]
 mod fed;
 #[cfg(test)]
@@ -26,7 +18,7 @@ mod long_lines;
 #[cfg(test)]
 mod memory;
 #[cfg(test)]
-mod readers;
+mod reads;
 #[cfg(test)]
 mod runs;
 #[cfg(test)]
@@ -34,14 +26,6 @@ mod scripts;
 #[cfg(test)]
 mod traces;
 #[cfg(test)]
-mod turns;
-#[cfg(test)]
 mod witnesses;
 #[cfg(test)]
-mod words;
-#[cfg(test)]
 mod worked_cases;
-#[cfg(test)]
-mod writers;
-#[cfg(test)]
-mod written;

@@ -1,15 +1,14 @@
 //! Runs where memory is refused: they print what ample ones do, or that memory ran out and nothing else. Run
 //! again, they print what ample ones do.
-use crate::doubles::{Page, Room, Text};
-use crate::expected::expect;
 use crate::fed::{expect_told, fault_of};
-use crate::runs::{Answer, CHECK, Program, REPLAY, Run, SCRIPT};
+use crate::runs::{Answer, CHECK, Program, REPLAY, Run, SCRIPT, counts_of, expect};
 use crate::traces::legal;
 use event_core::Refusal;
 use rapid_text::{Cause, TextFault};
 use std::process::Abort;
 use std::sync::Wait;
 use std::thread::Threads;
+use test_doubles::{Page, Room, Text};
 use trace_report::ReplayFault;
 use wcp_tool::ScriptFiles;
 
@@ -25,39 +24,28 @@ const NO_WORKER: Answer<'static> = Answer {
     status: 6,
 };
 
-/// The program on the text writes this and ends so, or writes that memory ran out and nothing else.
+/// The program on the text answers so, or writes that memory ran out and nothing else.
 pub fn expect_whole<R: Abort + AllocGlobal + ScriptFiles + Threads + Wait + Sync>(
     rt: &R,
-    name: &str,
     program: Program<'_>,
     text: &str,
-    (output, status): (&str, u8),
+    expected: Answer<'_>,
 ) {
     let run = Run::of(program, Text::whole(text.as_bytes()));
     let ran = run.ran(rt);
     let answer = ran.answer();
     if answer == OUT_OF_MEMORY || answer == NO_WORKER {
-        run.expect(rt, name, output, "", status);
+        run.expect(rt, expected);
     } else {
-        let errors = "";
-        expect(
-            rt,
-            name,
-            &answer,
-            &Answer {
-                output,
-                errors,
-                status,
-            },
-        );
+        expect(rt, text, &answer, &expected);
     }
 }
 
 #[test]
 fn a_trace_is_answered_whole_or_not_at_all_where_memory_is_refused(rt: HostRuntime) {
-    for (name, text, counts, report, status) in legal() {
-        expect_whole(&rt, name, CHECK, text, (counts, 0));
-        expect_whole(&rt, name, REPLAY, text, (report, *status));
+    for (text, report, status) in legal() {
+        expect_whole(&rt, CHECK, text, Answer::of(counts_of(report).as_str(), 0));
+        expect_whole(&rt, REPLAY, text, Answer::of(report, *status));
     }
 }
 
@@ -65,7 +53,7 @@ fn a_trace_is_answered_whole_or_not_at_all_where_memory_is_refused(rt: HostRunti
 fn a_script_is_run_whole_or_not_at_all_where_memory_is_refused(rt: HostRuntime) {
     let text = "m fork a\na w x 5\nm join a\nm r x\n";
     let report = "events 4 threads 2 locks 0 variables 1 races 0\n";
-    expect_whole(&rt, text, SCRIPT, text, (report, 0));
+    expect_whole(&rt, SCRIPT, text, Answer::of(report, 0));
 }
 
 /// Whether the fault says that memory ran out.
@@ -84,8 +72,8 @@ fn ran_out(fault: &ReplayFault) -> bool {
 
 #[test]
 fn a_trace_is_replayed_whole_or_not_at_all_where_memory_is_refused(rt: HostRuntime) {
-    for (name, text, _, report, _) in legal() {
-        let text = Text::cut(text.as_bytes(), 7, 3);
+    for (bytes, report, _) in legal() {
+        let text = Text::cut(bytes.as_bytes(), 7, 3);
         let mut page = Page::blank(Room::AMPLE);
         let came = fault_of(rt.alloc(), text, 8, &mut page);
         let is_refused = match &came {
@@ -94,10 +82,10 @@ fn a_trace_is_replayed_whole_or_not_at_all_where_memory_is_refused(rt: HostRunti
             Some(Some(fault)) => ran_out(fault),
         };
         if is_refused {
-            expect(&rt, name, &page.text(), &"");
-            expect_told(&rt, rt.alloc(), name, text, report, true);
+            expect(&rt, bytes, &page.text(), &"");
+            expect_told(&rt, rt.alloc(), text, Answer::of(report, 0));
         } else {
-            expect(&rt, name, &(came, page.text()), &(Some(None), *report));
+            expect(&rt, bytes, &(came, page.text()), &(Some(None), *report));
         }
     }
 }

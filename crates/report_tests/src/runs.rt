@@ -1,13 +1,20 @@
 //! Runs of the program and of scripts, and what they come to.
-ghost use Rattle.std.specs.Prelude.{◌≡◌, ◌≤◌, false};
+ghost use Rattle.std.specs.Prelude.{◌≡◌, false};
 
-use crate::doubles::{Page, Pieces, Room, Text};
-use crate::expected::expect;
 use rapid_text::Device;
+use std::fmt::{Debug, InlineText};
 use std::process::Abort;
 use std::sync::Wait;
 use std::thread::Threads;
+use test_doubles::{Page, Pieces, Room, Text};
 use wcp_tool::{Command, ScriptFiles, Settings, run_script, tool};
+
+/// Ends the test, unless what came is what was expected, with the case and both.
+pub fn expect<T: Debug + PartialEq>(rt: &impl Abort, case: &str, came: &T, expected: &T) {
+    if came != expected {
+        rt.panic(format_args!("{case:?}: expected {expected:?}, came {came:?}"));
+    }
+}
 
 /// What is run: the program over its words, by itself or with devices of std, or a script, a line of which is
 /// tried so often, and at least once.
@@ -46,6 +53,23 @@ pub struct Answer<'a> {
     pub output: &'a str,
     pub errors: &'a str,
     pub status: u8,
+}
+
+pub const READ_FAULT: Answer<'static> = Answer {
+    output: "",
+    errors: "read fault\n",
+    status: 4,
+};
+
+impl<'a> Answer<'a> {
+    /// Nothing is written to standard error.
+    pub fn of(output: &'a str, status: u8) -> Answer<'a> {
+        Answer {
+            output,
+            errors: "",
+            status,
+        }
+    }
 }
 
 impl Ran {
@@ -113,72 +137,97 @@ impl<'a> Run<'a> {
         }
     }
 
-    /// The run writes this to standard output and to standard error, and ends with this status.
+    /// The run answers so.
     pub fn expect<R: Abort + AllocGlobal + ScriptFiles + Threads + Wait + Sync>(
         &self,
         rt: &R,
-        name: &str,
-        output: &str,
-        errors: &str,
-        status: u8,
+        answer: Answer<'_>,
     ) {
-        let expected = Answer {
-            output,
-            errors,
-            status,
-        };
-        expect(rt, name, &self.ran(rt).answer(), &expected);
+        expect(rt, self.text.name(), &self.ran(rt).answer(), &answer);
     }
 }
 
-/// A check and a replay of the text come to this: the counts or the report, what standard error has,
-/// and the status of the replay. A check ends with 0 where a replay reports a race.
-pub fn expect_both<R: Abort + AllocGlobal + ScriptFiles + Threads + Wait + Sync>(
+/// The run of the program by the words of a line, of which there are at most eight.
+pub fn ran_line<R: AllocGlobal + ScriptFiles + Threads + Wait + Sync>(
     rt: &R,
-    name: &str,
+    line: &str,
     text: Text<'_>,
-    (counts, report): (&str, &str),
-    errors: &str,
-    status: u8,
-) {
-    let checked = if status == 1 { 0 } else { status };
-    Run::of(CHECK, text).expect(rt, name, counts, errors, checked);
-    Run::of(REPLAY, text).expect(rt, name, report, errors, status);
+) -> Ran {
+    let mut words = [""; 8];
+    let mut count: usize = 0;
+    for word in line.split_whitespace() {
+        if count < 8 {
+            words[count] = word;
+            count += 1;
+        }
+    }
+    Run::of(Program::Words(&words[..count.min(8)]), text).ran(rt)
 }
 
-/// What is run, the text that it reads, whether the reader then fails, the room for what it writes, what it
-/// writes to standard output and to standard error, and the status.
+/// What a check prints where a replay prints this: the counts without the races, or the line of a fault.
+pub fn counts_of(report: &str) -> InlineText<128> {
+    match report.split_once(" races ") {
+        Some((counts, _)) => InlineText::of(format_args!("{counts}\n")),
+        None => InlineText::of(report),
+    }
+}
+
+/// A replay of the text answers so, and a check likewise, with its counts in place of the report. A check
+/// ends with 0 where a replay reports a race.
+pub fn expect_both<R: Abort + AllocGlobal + ScriptFiles + Threads + Wait + Sync>(
+    rt: &R,
+    text: Text<'_>,
+    replayed: Answer<'_>,
+) {
+    let counts = counts_of(replayed.output);
+    let checked = Answer {
+        output: counts.as_str(),
+        errors: replayed.errors,
+        status: if replayed.status == 1 {
+            0
+        } else {
+            replayed.status
+        },
+    };
+    Run::of(CHECK, text).expect(rt, checked);
+    Run::of(REPLAY, text).expect(rt, replayed);
+}
+
+/// What is run, the text that it reads, whether the reader then fails, how many bytes a put may have and how
+/// many puts to standard output there may be, what the run writes to standard output and to standard error,
+/// and the status.
 pub type Row = (
     Program<'static>,
     &'static str,
     bool,
-    (Room, Room),
+    (usize, usize),
     &'static str,
     &'static str,
     u8,
 );
 
-/// Each row holds. Where one does not, its number is printed, counted from 0.
+/// As many puts as the run makes, each of as many bytes as it has.
+pub const ALL: (usize, usize) = (usize::MAX, usize::MAX);
+
+pub const READ: &str = "read fault\n";
+
+pub const WRITE: &str = "write fault\n";
+
 pub fn expect_rows<R: Abort + AllocGlobal + ScriptFiles + Threads + Wait + Sync>(
     rt: &R,
     rows: &[Row],
 ) {
-    for (number, row) in rows.iter().enumerate() {
-        let (program, text, fails, rooms, output, errors, status) = *row;
+    for (program, text, fails, (most, puts), output, errors, status) in rows {
         let run = Run {
-            program,
-            text: Text {
-                fails,
-                ..Text::whole(text.as_bytes())
-            },
-            rooms,
+            program: *program,
+            text: Text::whole(text.as_bytes()).failing(*fails),
+            rooms: (Room::of(*most, *puts), Room::AMPLE),
         };
-        let expected = Answer {
+        let answer = Answer {
             output,
             errors,
-            status,
+            status: *status,
         };
-        let ran = run.ran(rt);
-        expect(rt, text, &(number, ran.answer()), &(number, expected));
+        run.expect(rt, answer);
     }
 }

@@ -1,114 +1,54 @@
 //! Scripts, and what a run of their threads prints.
-use crate::doubles::{Page, Room, Text, letters};
-use crate::expected::expect;
 use crate::runs::Program::{self, Script};
-use crate::runs::{Answer, Ran, Row, Run, SCRIPT, expect_rows};
+use crate::runs::{ALL, Answer, READ, Ran, Row, Run, SCRIPT, WRITE, expect, expect_rows, ran_line};
 use std::fs;
 use std::fs::Files;
 use std::process::Abort;
+use test_doubles::{Page, Room, Text, letters, rows};
 
-/// What a script shows, its text, what a run of it prints, and the status with which it ends.
-type Case = (&'static str, &'static str, &'static str, u8);
+/// A script, what a run of it prints, and the status with which it ends.
+const SCRIPTS: &[(&str, &str, u8)] = rows! {
+    "", "events 0 threads 0 locks 0 variables 0 races 0\n", 0;
+    // a thread that is joined before its store is loaded
+    "m fork a\na w x 5\nm join a\nm r x\n", "events 4 threads 2 locks 0 variables 1 races 0\n", 0;
+    // a lock that is never released
+    "m acq l\nm fork a\na acq l\nm join a\n", "line 3: Stuck\n", 6;
+    // a thread that no line forks, or that is forked twice
+    "m r x\na r x\n", "line 2: NoFork\n", 6;
+    "m fork a\nm fork a\n", "line 2: BadFork\n", 6;
+    // a number above the greatest
+    "m w x 18446744073709551616\n", "line 1: BadNumber\n", 6;
+    // a release of a lock that is free
+    "m rel l\n", "line 1: NotHolder\n", 3;
+    // a thread that joins itself
+    "m fork a\nm join m\n", "line 2: BadJoin\n", 6;
+    // two blanks
+    "m  r x\n", "line 1: BadLine\n", 6;
+    // a thread that is not joined
+    "m fork a\nm join a\nm fork b\nb r x\n", "events 4 threads 3 locks 0 variables 1 races 0\n", 0;
+    // a lock that its holder acquires again
+    "m acq l\nm acq l\n", "events 2 threads 1 locks 1 variables 0 races 0\n", 0;
+    // swaps in turn, and a swap of no number
+    "m fork a\na swap x 4\nm join a\nm swap x 5\n", "events 6 threads 2 locks 0 variables 1 races 0\n", 0;
+    "m swap x -1\n", "line 1: BadNumber\n", 6;
+    // a fault that two threads wait for
+    "m fork a\nm fork b\na rel l\nb join a\nm join b\n", "line 3: NotHolder\n", 3;
+    // loads that nothing orders
+    "m fork a\nm r x\na r y\n", "events 3 threads 2 locks 0 variables 2 races 0\n", 0;
+    // stores under one lock
+    "m fork a\nm acq l\nm w x 1\nm rel l\na acq l\na w x 2\na rel l\nm join a\nm r x\n",
+        "events 9 threads 2 locks 1 variables 1 races 0\n", 0;
+};
 
-const SCRIPTS: &[Case] = &[
-    (
-        "an empty script",
-        "",
-        "events 0 threads 0 locks 0 variables 0 races 0\n",
-        0,
-    ),
-    (
-        "a thread that is joined before its store is loaded",
-        "m fork a\na w x 5\nm join a\nm r x\n",
-        "events 4 threads 2 locks 0 variables 1 races 0\n",
-        0,
-    ),
-    (
-        "a lock that is never released",
-        "m acq l\nm fork a\na acq l\nm join a\n",
-        "line 3: Stuck\n",
-        6,
-    ),
-    (
-        "a thread that no line forks",
-        "m r x\na r x\n",
-        "line 2: NoFork\n",
-        6,
-    ),
-    (
-        "a thread that is forked twice",
-        "m fork a\nm fork a\n",
-        "line 2: BadFork\n",
-        6,
-    ),
-    (
-        "a number above the greatest",
-        "m w x 18446744073709551616\n",
-        "line 1: BadNumber\n",
-        6,
-    ),
-    (
-        "a release of a lock that is free",
-        "m rel l\n",
-        "line 1: NotHolder\n",
-        3,
-    ),
-    (
-        "a thread that joins itself",
-        "m fork a\nm join m\n",
-        "line 2: BadJoin\n",
-        6,
-    ),
-    ("two blanks", "m  r x\n", "line 1: BadLine\n", 6),
-    (
-        "a thread that is not joined",
-        "m fork a\nm join a\nm fork b\nb r x\n",
-        "events 4 threads 3 locks 0 variables 1 races 0\n",
-        0,
-    ),
-    (
-        "a lock that its holder acquires again",
-        "m acq l\nm acq l\n",
-        "events 2 threads 1 locks 1 variables 0 races 0\n",
-        0,
-    ),
-    (
-        "swaps in turn",
-        "m fork a\na swap x 4\nm join a\nm swap x 5\n",
-        "events 6 threads 2 locks 0 variables 1 races 0\n",
-        0,
-    ),
-    (
-        "a swap of no number",
-        "m swap x -1\n",
-        "line 1: BadNumber\n",
-        6,
-    ),
-    (
-        "a fault that two threads wait for",
-        "m fork a\nm fork b\na rel l\nb join a\nm join b\n",
-        "line 3: NotHolder\n",
-        3,
-    ),
-    (
-        "loads that nothing orders",
-        "m fork a\nm r x\na r y\n",
-        "events 3 threads 2 locks 0 variables 2 races 0\n",
-        0,
-    ),
-    (
-        "stores under one lock",
-        "m fork a\nm acq l\nm w x 1\nm rel l\na acq l\na w x 2\na rel l\nm join a\nm r x\n",
-        "events 9 threads 2 locks 1 variables 1 races 0\n",
-        0,
-    ),
-];
+fn scripts() -> &'static [(&'static str, &'static str, u8)] {
+    SCRIPTS
+}
 
 #[test]
 fn the_worked_scripts_have_their_answers(rt: HostRuntime) {
-    for (name, text, output, status) in SCRIPTS {
+    for (text, output, status) in scripts() {
         let run = Run::of(SCRIPT, Text::cut(text.as_bytes(), 5, 3));
-        run.expect(&rt, name, output, "", *status);
+        run.expect(&rt, Answer::of(output, *status));
     }
 }
 
@@ -118,7 +58,7 @@ fn a_line_of_a_script_that_is_too_long_is_told(rt: HostRuntime) {
     text.keep(letters(1025));
     text.keep(b"\n");
     let run = Run::of(SCRIPT, Text::whole(text.bytes()));
-    run.expect(&rt, "1,025 bytes", "line 1: LineTooLong\n", "", 6);
+    run.expect(&rt, Answer::of("line 1: LineTooLong\n", 6));
 }
 
 /// Nothing orders the store and the load of `y`, in whichever order they come.
@@ -137,60 +77,7 @@ const GIVEN_UP: &str = "line 3: Stuck\n";
 
 const MISSING: Program<'static> = Program::Words(&["run", "there/is/no/such/script"]);
 
-const UNREAD: &str = "read fault\n";
-
-const UNWRITTEN: &str = "write fault\n";
-
-const ALL: (Room, Room) = (Room::AMPLE, Room::AMPLE);
-
-const ONE_PUT: (Room, Room) = (Room::ONE_PUT, Room::AMPLE);
-
-/// So many puts of at most seven bytes.
-const NEVER: (Room, Room) = (
-    Room {
-        most: 7,
-        puts: 0,
-        ..Room::AMPLE
-    },
-    Room::AMPLE,
-);
-
-const ONCE: (Room, Room) = (
-    Room {
-        most: 7,
-        puts: 1,
-        ..Room::AMPLE
-    },
-    Room::AMPLE,
-);
-
-const TWICE: (Room, Room) = (
-    Room {
-        most: 7,
-        puts: 2,
-        ..Room::AMPLE
-    },
-    Room::AMPLE,
-);
-
-/// So many puts of at most 17 bytes, as many as the line has that a thread was not started.
-const ONE_LINE: (Room, Room) = (
-    Room {
-        most: 17,
-        puts: 1,
-        ..Room::AMPLE
-    },
-    Room::AMPLE,
-);
-
-const TWO_LINES: (Room, Room) = (
-    Room {
-        most: 17,
-        puts: 2,
-        ..Room::AMPLE
-    },
-    Room::AMPLE,
-);
+const ONE_PUT: (usize, usize) = (usize::MAX, 1);
 
 const LESS: &str = "events 8 threads ";
 
@@ -202,29 +89,34 @@ const ROWS: &[Row] = &[
     (Script(2), STUCK, false, ALL, GIVEN_UP, "", 6),
     (Script(100), STUCK, false, ALL, GIVEN_UP, "", 6),
     // Whole lines that came before a reader failed are judged first.
-    (SCRIPT, "m acq l", true, ALL, "", UNREAD, 4),
-    (SCRIPT, "m fork a\na r", true, ALL, "", UNREAD, 4),
+    (SCRIPT, "m acq l", true, ALL, "", READ, 4),
+    (SCRIPT, "m fork a\na r", true, ALL, "", READ, 4),
     (SCRIPT, BAD, true, ALL, "line 1: BadLine\n", "", 6),
     // A writer that takes one put and no more has the whole line of a fault.
     (SCRIPT, BAD, false, ONE_PUT, "line 1: BadLine\n", "", 6),
     (SCRIPT, FREE, false, ONE_PUT, "line 1: NotHolder\n", "", 3),
-    // Whichever write fails, of a report or of a fault, the status says so.
-    (SCRIPT, RACE, false, NEVER, "", UNWRITTEN, 4),
-    (SCRIPT, RACE, false, ONE_LINE, LESS, UNWRITTEN, 4),
-    (SCRIPT, RACE, false, TWO_LINES, MORE, UNWRITTEN, 4),
-    (SCRIPT, FREE, false, NEVER, "", UNWRITTEN, 4),
-    (SCRIPT, FREE, false, ONCE, "line 1:", UNWRITTEN, 4),
-    (SCRIPT, FREE, false, TWICE, "line 1: NotHol", UNWRITTEN, 4),
-    (SCRIPT, BAD, false, NEVER, "", UNWRITTEN, 4),
-    (SCRIPT, BAD, false, ONCE, "line 1:", UNWRITTEN, 4),
-    (SCRIPT, BAD, false, TWICE, "line 1: BadLin", UNWRITTEN, 4),
+    // Whichever write fails, of a report or of a fault, the status says so. The line that a thread was not
+    // started has 17 bytes.
+    (SCRIPT, RACE, false, (7, 0), "", WRITE, 4),
+    (SCRIPT, RACE, false, (17, 1), LESS, WRITE, 4),
+    (SCRIPT, RACE, false, (17, 2), MORE, WRITE, 4),
+    (SCRIPT, FREE, false, (7, 0), "", WRITE, 4),
+    (SCRIPT, FREE, false, (7, 1), "line 1:", WRITE, 4),
+    (SCRIPT, FREE, false, (7, 2), "line 1: NotHol", WRITE, 4),
+    (SCRIPT, BAD, false, (7, 0), "", WRITE, 4),
+    (SCRIPT, BAD, false, (7, 1), "line 1:", WRITE, 4),
+    (SCRIPT, BAD, false, (7, 2), "line 1: BadLin", WRITE, 4),
     // A missing file is answered with a read fault.
-    (MISSING, "", false, ALL, "", UNREAD, 4),
+    (MISSING, "", false, ALL, "", READ, 4),
 ];
+
+fn rows_of_devices() -> &'static [Row] {
+    ROWS
+}
 
 #[test]
 fn patience_readers_and_writers_bound_a_run_of_a_script(rt: HostRuntime) {
-    expect_rows(&rt, ROWS);
+    expect_rows(&rt, rows_of_devices());
 }
 
 /// The line of the race. None, one or two calls of the child come before the store, and none, one, two or
@@ -254,83 +146,48 @@ fn is_race(report: &[u8]) -> bool {
 }
 
 /// A race is reported, and nothing else is said.
-fn expect_race(rt: &impl Abort, name: &str, ran: &Ran) {
+fn expect_race(rt: &impl Abort, ran: &Ran) {
     let came = (ran.answer(), is_race(ran.output.bytes()));
     let expected = Answer {
         errors: "",
         status: 1,
         ..came.0
     };
-    expect(rt, name, &came, &(expected, true));
+    expect(rt, RACE, &came, &(expected, true));
 }
 
 #[test]
 fn a_race_is_reported_whole_whatever_the_schedule(rt: HostRuntime) {
     for _ in 0..20 {
         let ran = Run::of(SCRIPT, Text::whole(RACE.as_bytes())).ran(&rt);
-        expect_race(&rt, RACE, &ran);
+        expect_race(&rt, &ran);
     }
 }
 
 /// Words that run the script in the file, its text, what is printed, and the status.
-const IN_A_FILE: &[(&[&str], &str, &str, u8)] = &[
-    (
-        &["run", "worked.script"],
-        "m fork a\na w x 5\nm join a\nm r x\n",
-        "events 4 threads 2 locks 0 variables 1 races 0\n",
-        0,
-    ),
-    (
-        &["run", "worked.script"],
-        "m r x\na r x\n",
-        "line 2: NoFork\n",
-        6,
-    ),
-    (
-        &["run", "worked.script", "--patience", "1"],
-        "m acq l\nm fork a\na acq l\n",
-        "line 3: Stuck\n",
-        6,
-    ),
-    (
-        &["run", "worked.script", "--threads", "1"],
-        "m fork a\n",
-        "line 1: TooManyNames\n",
-        6,
-    ),
-    (
-        &["run", "worked.script"],
-        "m rel l\n",
-        "line 1: NotHolder\n",
-        3,
-    ),
-];
+const IN_A_FILE: &[(&str, &str, &str, u8)] = rows! {
+    "run a.script", "m fork a\na w x 5\nm join a\nm r x\n",
+        "events 4 threads 2 locks 0 variables 1 races 0\n", 0;
+    "run a.script", "m r x\na r x\n", "line 2: NoFork\n", 6;
+    "run a.script --patience 1", STUCK, "line 3: Stuck\n", 6;
+    "run a.script --threads 1", "m fork a\n", "line 1: TooManyNames\n", 6;
+    "run a.script", "m rel l\n", "line 1: NotHolder\n", 3;
+};
 
-const FILE: &str = "worked.script";
+const FILE: &str = "a.script";
 
 fn write_script<R: Abort + AllocGlobal + Files>(rt: &R, text: &str) {
     fs::write(rt, FILE, text).expect(rt, "a file");
-}
-
-fn remove_script<R: Abort + AllocGlobal + Files>(rt: &R) {
-    fs::remove_file(rt, FILE).expect(rt, "a file");
 }
 
 #[test]
 fn a_script_in_a_file_is_run(rt: HostRuntime) {
     for (words, text, output, status) in IN_A_FILE {
         write_script(&rt, text);
-        let ran = Run::of(Program::Words(words), Text::whole(b"")).ran(&rt);
-        remove_script(&rt);
-        let expected = Answer {
-            output,
-            errors: "",
-            status: *status,
-        };
-        expect(&rt, text, &ran.answer(), &expected);
+        let ran = ran_line(&rt, words, Text::whole(b""));
+        expect(&rt, text, &ran.answer(), &Answer::of(output, *status));
     }
     write_script(&rt, RACE);
-    let ran = Run::of(Program::Words(&["run", FILE]), Text::whole(b"")).ran(&rt);
-    remove_script(&rt);
-    expect_race(&rt, "in a file", &ran);
+    expect_race(&rt, &ran_line(&rt, "run a.script", Text::whole(b"")));
+    fs::remove_file(&rt, FILE).expect(&rt, "a file");
 }

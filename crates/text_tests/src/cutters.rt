@@ -1,9 +1,10 @@
 //! A cutter whose text comes piece by piece.
-use super::expected::expect;
-use super::readers::{event, limits};
-use event_core::{Event, LockId, Op, VarId};
-use rapid_text::{Cause, Cutter, LineFault, TextFault};
+use super::readers::{expect, limits};
+use event_core::Event;
+use rapid_text::{Cutter, TextFault};
+use std::fmt::InlineText;
 use std::process::Abort;
+use test_doubles::{event_text, rows};
 
 /// What a cutter is given.
 enum Given {
@@ -14,108 +15,84 @@ enum Given {
     ReadFailed,
 }
 
-/// What a cutter is to answer.
-#[derive(Clone, Copy)]
-enum Answer {
-    /// So many bytes were taken, and there is no event.
-    Took(usize),
-    /// So many bytes were taken, up to the end of an event: its thread, its operation and its location.
-    Told(usize, u32, Op, u32),
-    /// A fault of this line.
-    Fault(u64, Cause),
-}
-
-use Answer::{Fault, Told, Took};
 use Given::{End, Piece, ReadFailed};
 
-/// What is given and answered, the line of the last answer, and the number of the line whose end was not
-/// seen.
-type Step = (Given, Answer, u64, u64);
+/// What is given, and what is answered: how many bytes were taken, and up to the end of which event; or the
+/// line and the cause of a fault. Then the line of the last answer, and the number of the line whose end was
+/// not seen.
+type Step = (Given, &'static str, u64, u64);
 
-const CASES: &[(&str, &[Step])] = &[
-    (
-        "a line comes in pieces",
-        &[
-            (Piece(b"\nT0|rel(l"), Took(9), 0, 2),
-            (Piece(b""), Took(0), 0, 2),
-            (Piece(b")|\r"), Took(3), 0, 2),
-            (Piece(b"\nT1|"), Told(1, 0, Op::Release(LockId(0)), 0), 2, 3),
-            (Piece(b"T1|w(x)|7"), Took(9), 2, 3),
-            (End, Told(0, 1, Op::Store(VarId(0)), 1), 3, 4),
-            (End, Took(0), 3, 4),
-        ],
-    ),
-    (
-        "an unfinished line is judged at the end",
-        &[
-            (Piece(b"T0|w(x"), Took(6), 0, 1),
-            (End, Fault(1, Cause::Line(LineFault::FewFields)), 1, 1),
-            (End, Fault(1, Cause::Failed), 1, 1),
-            (Piece(b"T0|w(x)|\n"), Fault(1, Cause::Failed), 1, 1),
-        ],
-    ),
-    (
-        "a cutter whose reader failed stays failed",
-        &[
-            (ReadFailed, Fault(1, Cause::Read), 1, 1),
-            (ReadFailed, Fault(1, Cause::Failed), 1, 1),
-        ],
-    ),
-];
+const IN_PIECES: &[Step] = rows! {
+    Piece(b"\nT0|rel(l"), "took 9", 0, 2;
+    Piece(b""), "took 0", 0, 2;
+    Piece(b")|\r"), "took 3", 0, 2;
+    Piece(b"\nT1|"), "took 1: T0 Release(LockId(0)) at 0: 0", 2, 3;
+    Piece(b"T1|w(x)|7"), "took 9", 2, 3;
+    End, "took 0: T1 Store(VarId(0)) at 1: 0", 3, 4;
+    End, "took 0", 3, 4;
+};
+
+/// An unfinished line is judged at the end.
+const UNFINISHED: &[Step] = rows! {
+    Piece(b"T0|w(x"), "took 6", 0, 1;
+    End, "1: Line(FewFields)", 1, 1;
+    End, "1: Failed", 1, 1;
+    Piece(b"T0|w(x)|\n"), "1: Failed", 1, 1;
+};
+
+/// A cutter whose reader failed stays failed.
+const FAILED: &[Step] = rows! {
+    ReadFailed, "1: Read", 1, 1;
+    ReadFailed, "1: Failed", 1, 1;
+};
 
 /// The bytes that were taken and the event, or the fault.
 fn give(cutter: &mut Cutter, given: &Given) -> Result<(usize, Option<Event>), TextFault> {
     match given {
         Piece(piece) => cutter.push(piece),
-        End => match cutter.finish() {
-            Ok(event) => Ok((0, event)),
-            Err(fault) => Err(fault),
-        },
+        End => cutter.finish().map(|event| (0, event)),
         ReadFailed => Err(cutter.read_failed()),
     }
 }
 
-/// What the cutter answered, the line of its fault, if it knows of one, the line of the last answer, and the
-/// number of the line whose end was not seen.
-type Came = (
-    Result<(usize, Option<Event>), TextFault>,
-    Option<u64>,
-    u64,
-    u64,
-);
-
-impl Answer {
-    /// The answer, with these lines after it.
-    fn came(self, line: u64, unfinished: u64) -> Came {
-        match self {
-            Took(count) => (Ok((count, None)), None, line, unfinished),
-            Told(count, thread, op, site) => {
-                let told = Some(event(thread, op, site));
-                (Ok((count, told)), None, line, unfinished)
-            }
-            Fault(at, cause) => {
-                let fault = TextFault { line: at, cause };
-                (Err(fault), Some(at), line, unfinished)
-            }
+/// The answer as text.
+fn answer_text(answer: &Result<(usize, Option<Event>), TextFault>) -> InlineText<128> {
+    match answer {
+        Ok((count, Some(event))) => {
+            InlineText::of(format_args!("took {count}: {}", event_text(event).as_str()))
         }
+        Ok((count, None)) => InlineText::of(format_args!("took {count}")),
+        Err(fault) => InlineText::of(format_args!("{}: {:?}", fault.line, fault.cause)),
     }
 }
 
-/// The cutter answers the steps so, one after another.
-fn expect_steps(rt: &impl Abort, name: &str, cutter: &mut Cutter, steps: &[Step]) {
+/// The cutter answers the steps so, one after another. It has failed at the line of a fault that it answers.
+fn expect_steps(rt: &impl Abort, cutter: &mut Cutter, steps: &[Step]) {
     for (given, wanted, line, unfinished) in steps {
         let answer = give(cutter, given);
-        let came = (answer, cutter.failed(), cutter.line(), cutter.unfinished());
-        expect(rt, name.as_bytes(), &came, &wanted.came(*line, *unfinished));
+        let text = answer_text(&answer);
+        let failed = answer.err().map(|fault| fault.line);
+        let came = (
+            text.as_str(),
+            cutter.failed(),
+            cutter.line(),
+            cutter.unfinished(),
+        );
+        expect(
+            rt,
+            wanted.as_bytes(),
+            &came,
+            &(*wanted, failed, *line, *unfinished),
+        );
     }
 }
 
 #[test]
 fn a_cutter_answers_each_piece(rt: HostRuntime) {
-    for (name, steps) in CASES {
+    for steps in [IN_PIECES, UNFINISHED, FAILED] {
         let mut cutter = Cutter::new(rt.alloc(), limits(&rt)).expect(&rt, "a cutter");
-        expect(&rt, name.as_bytes(), &cutter.failed(), &None);
-        expect_steps(&rt, name, &mut cutter, steps);
+        expect(&rt, b"a new cutter", &cutter.failed(), &None);
+        expect_steps(&rt, &mut cutter, steps);
         drop(cutter);
     }
 }

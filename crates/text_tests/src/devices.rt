@@ -1,17 +1,14 @@
 //! Readers that fail, and turns that are used up.
-use super::doubles::{byte_by_byte, that_fails};
-use super::readers::Answer::{End, Fault, Told};
-use super::readers::{Answer, expect_told};
-use event_core::{Op, VarId};
-use rapid_text::{Cause, LineFault};
+use super::readers::expect_answers;
+use test_doubles::{Text, rows};
 
-const STORE: Answer = Told(1, 0, Op::Store(VarId(0)), 0);
+const READ_FAILS: &str = "1: Read\n1: Failed";
 
-const READ_FAILS: &[Answer] = &[Fault(1, Cause::Read), Fault(1, Cause::Failed)];
+const READ_FAILS_LATER: &str = "1: T0 Store(VarId(0)) at 0: 0\n2: Read";
 
-const READ_FAILS_LATER: &[Answer] = &[STORE, Fault(2, Cause::Read)];
+const FEW_FIELDS: &str = "1: T0 Store(VarId(0)) at 0: 0\n2: Line(FewFields)";
 
-const FEW_FIELDS: &[Answer] = &[STORE, Fault(2, Cause::Line(LineFault::FewFields))];
+const STORE: &str = "1: T0 Store(VarId(0)) at 0: 0\nend";
 
 /// The events of whole lines come first, and no byte of a line without an end is judged.
 #[test]
@@ -25,22 +22,23 @@ fn a_reader_may_fail_at_each_byte(rt: HostRuntime) {
         } else {
             FEW_FIELDS
         };
-        expect_told(&rt, rt.alloc(), that_fails(&text[..end]), 100, answers);
+        let text = Text::whole(&text[..end]).failing(true);
+        expect_answers(&rt, rt.alloc(), text, 100, answers);
     }
 }
 
 /// The pull that finds the end takes a turn too.
-const TURNS: &[(u32, &[Answer])] = &[
-    (0, READ_FAILS),
-    (9, READ_FAILS),
-    (10, READ_FAILS_LATER),
-    (11, &[STORE, End]),
-];
+const TURNS: &[(u32, &str)] = rows! {
+    0, READ_FAILS;
+    9, READ_FAILS;
+    10, READ_FAILS_LATER;
+    11, STORE;
+};
 
 #[test]
 fn each_pull_takes_a_turn(rt: HostRuntime) {
     for (turns, answers) in TURNS {
-        let pieces = byte_by_byte(b"T0|w(x)|1\n");
-        expect_told(&rt, rt.alloc(), pieces, *turns, answers);
+        let text = Text::byte_by_byte(b"T0|w(x)|1\n");
+        expect_answers(&rt, rt.alloc(), text, *turns, answers);
     }
 }

@@ -1,152 +1,73 @@
 //! Texts with a fault, each with the line and the cause.
-use super::doubles::Pieces;
-use super::expected::{expect, keep};
-use super::readers::Answer::{Fault, Told};
-use super::readers::{Answer, Case, expect_all, expect_told};
-use event_core::{LockId, Op, ThreadId, VarId};
+use super::readers::{Case, expect, expect_all, expect_answers};
 use rapid_text::{Cause, Kind, LineFault, NamedLine, Word, read_line};
-use std::alloc::Global;
+use test_doubles::{Page, Room, Text, letters, rows};
 
-const STORE: Answer = Told(1, 0, Op::Store(VarId(0)), 0);
-
-const LONG_NAME: Answer = Fault(1, Cause::Line(LineFault::LongName));
-
-const FEW_FIELDS: Answer = Fault(1, Cause::Line(LineFault::FewFields));
-
-const TOO_LONG: Answer = Fault(1, Cause::Line(LineFault::LineTooLong));
-
-const CASES: &[Case] = &[
+const CASES: &[Case] = rows! {
     // each cause, and where two apply the first in their order
-    Case {
-        text: b"T0|w(x\ry)|1|2",
-        answers: &[Fault(1, Cause::Line(LineFault::StrayCr))],
-    },
-    Case {
-        text: b"T0|w(x\ry",
-        answers: &[Fault(1, Cause::Line(LineFault::StrayCr))],
-    },
-    Case {
-        text: b"T0|acq(l",
-        answers: &[FEW_FIELDS],
-    },
-    Case {
-        text: b"T0|begin(x)|1|",
-        answers: &[Fault(1, Cause::Line(LineFault::ManyFields))],
-    },
-    Case {
-        text: b"|W(x)|1",
-        answers: &[Fault(1, Cause::Line(LineFault::BadOp))],
-    },
-    Case {
-        text: b"T0|w(x)y|1",
-        answers: &[Fault(1, Cause::Line(LineFault::BadOp))],
-    },
-    Case {
-        text: b"T0|w|1",
-        answers: &[Fault(1, Cause::Line(LineFault::BadOp))],
-    },
-    Case {
-        text: b"|w(x)|1",
-        answers: &[Fault(1, Cause::Line(LineFault::EmptyName))],
-    },
-    Case {
-        text: b"T0|w()|1",
-        answers: &[Fault(1, Cause::Line(LineFault::EmptyName))],
-    },
+    b"T0|w(x\ry)|1|2", "1: Line(StrayCr)";
+    b"T0|w(x\ry", "1: Line(StrayCr)";
+    b"T0|acq(l", "1: Line(FewFields)";
+    b"T0|begin(x)|1|", "1: Line(ManyFields)";
+    b"|W(x)|1", "1: Line(BadOp)";
+    b"T0|w(x)y|1", "1: Line(BadOp)";
+    b"T0|w|1", "1: Line(BadOp)";
+    b"|w(x)|1", "1: Line(EmptyName)";
+    b"T0|w()|1", "1: Line(EmptyName)";
     // the events before the fault come first, and after it the reader fails for good
-    Case {
-        text: b"\r\nT0|w(x)|1\nT0|r(x)|2\n\nT0|begin(x)|3\nT0|r(x)|",
-        answers: &[
-            Told(2, 0, Op::Store(VarId(0)), 0),
-            Told(3, 0, Op::Load(VarId(0)), 1),
-            Fault(5, Cause::Line(LineFault::BadOp)),
-            Fault(5, Cause::Failed),
-            Fault(5, Cause::Failed),
-        ],
-    },
+    b"\r\nT0|w(x)|1\nT0|r(x)|2\n\nT0|begin(x)|3\nT0|r(x)|",
+        "2: T0 Store(VarId(0)) at 0: 0\n3: T0 Load(VarId(0)) at 1: 0\n5: Line(BadOp)\n5: Failed\n5: Failed";
     // a new name past the limit of its kind is one too many
-    Case {
-        text: b"T0|fork(T1)|\nT2|w(x)|",
-        answers: &[
-            Told(1, 0, Op::Fork(ThreadId(1)), 0),
-            Fault(2, Cause::TooManyNames(Kind::Thread)),
-        ],
-    },
-    Case {
-        text: b"T0|acq(l)|\nT0|acq(m)|",
-        answers: &[
-            Told(1, 0, Op::Acquire(LockId(0)), 0),
-            Fault(2, Cause::TooManyNames(Kind::Lock)),
-        ],
-    },
-    Case {
-        text: b"T0|w(x)|\nT0|r(y)|",
-        answers: &[STORE, Fault(2, Cause::TooManyNames(Kind::Variable))],
-    },
+    b"T0|fork(T1)|\nT2|w(x)|", "1: T0 Fork(ThreadId(1)) at 0: 0\n2: TooManyNames(Thread)";
+    b"T0|acq(l)|\nT0|acq(m)|", "1: T0 Acquire(LockId(0)) at 0: 0\n2: TooManyNames(Lock)";
+    b"T0|w(x)|\nT0|r(y)|", "1: T0 Store(VarId(0)) at 0: 0\n2: TooManyNames(Variable)";
     // the kinds in the order of the line
-    Case {
-        text: b"T0|fork(T1)|\nT0|w(x)|\nT2|r(y)|",
-        answers: &[
-            Told(1, 0, Op::Fork(ThreadId(1)), 0),
-            Told(2, 0, Op::Store(VarId(0)), 0),
-            Fault(3, Cause::TooManyNames(Kind::Thread)),
-        ],
-    },
-];
+    b"T0|fork(T1)|\nT0|w(x)|\nT2|r(y)|",
+        "1: T0 Fork(ThreadId(1)) at 0: 0\n2: T0 Store(VarId(0)) at 0: 0\n3: TooManyNames(Thread)";
+};
+
+fn cases() -> &'static [Case] {
+    CASES
+}
 
 #[test]
 fn the_first_fault_is_told_in_its_turn(rt: HostRuntime) {
-    expect_all(&rt, rt.alloc(), CASES);
+    expect_all(&rt, rt.alloc(), cases());
 }
 
-/// So many times the letter a and then an end, whether the reader fails after it, and the answer.
-type LongLine = (usize, &'static [u8], bool, Answer);
-
-/// A name of 255 bytes and a content of 1,024 bytes are the longest. Of a line whose end was not seen, 1,025
-/// bytes may still end well, by a CR.
-const LONG_LINES: &[LongLine] = &[
-    (255, b"|w(x)|", false, STORE),
-    (256, b"|w(x)|", false, LONG_NAME),
-    (
-        256,
-        b"|w()|",
-        false,
-        Fault(1, Cause::Line(LineFault::EmptyName)),
-    ),
-    (1024, b"\n", false, FEW_FIELDS),
-    (1024, b"\r\n", false, FEW_FIELDS),
-    (1025, b"\n", false, TOO_LONG),
-    (1025, b"\r\n", false, TOO_LONG),
-    (1025, b"\ra\n", false, TOO_LONG),
-    (1026, b"", false, TOO_LONG),
-    (1025, b"", true, Fault(1, Cause::Read)),
-    (1026, b"", true, TOO_LONG),
-];
+/// So many times the letter a and then an end, whether the reader fails after it, and the answer. A name of
+/// 255 bytes and a content of 1,024 bytes are the longest. Of a line whose end was not seen, 1,025 bytes may
+/// still end well, by a CR.
+const LONG_LINES: &[(usize, &str, bool, &str)] = rows! {
+    255, "|w(x)|", false, "1: T0 Store(VarId(0)) at 0: 0";
+    256, "|w(x)|", false, "1: Line(LongName)";
+    256, "|w()|", false, "1: Line(EmptyName)";
+    1024, "\n", false, "1: Line(FewFields)";
+    1024, "\r\n", false, "1: Line(FewFields)";
+    1025, "\n", false, "1: Line(LineTooLong)";
+    1025, "\r\n", false, "1: Line(LineTooLong)";
+    1025, "\ra\n", false, "1: Line(LineTooLong)";
+    1026, "", false, "1: Line(LineTooLong)";
+    1025, "", true, "1: Read";
+    1026, "", true, "1: Line(LineTooLong)";
+};
 
 /// So many letters, and then the end.
-pub fn letters_and(alloc: Global, count: usize, end: &[u8]) -> Vec<u8> {
-    let mut text = Vec::new(alloc);
-    for _ in 0..count {
-        keep(&mut text, b"a");
-    }
-    keep(&mut text, end);
+pub fn letters_and(count: usize, end: &str) -> Page {
+    let mut text = Page::blank(Room::AMPLE);
+    text.keep(letters(count));
+    text.keep(end.as_bytes());
     text
 }
 
 #[test]
 fn lines_and_names_have_a_greatest_length(rt: HostRuntime) {
     for (len, end, fails, answer) in LONG_LINES {
-        let text = letters_and(rt.alloc(), *len, end);
+        let page = letters_and(*len, end);
         for piece in [1, 1000, 4096] {
-            let pieces = Pieces {
-                text: &text,
-                first: piece,
-                others: piece,
-                fails: *fails,
-            };
-            expect_told(&rt, rt.alloc(), pieces, 2000, &[*answer]);
+            let text = Text::cut(page.bytes(), piece, piece).failing(*fails);
+            expect_answers(&rt, rt.alloc(), text, 2000, answer);
         }
-        drop(text);
     }
 }
 

@@ -12,17 +12,11 @@ mod cutters;
 #[cfg(test)]
 mod devices;
 #[cfg(test)]
-mod doubles;
-#[cfg(test)]
-mod expected;
-#[cfg(test)]
 mod faultless;
 #[cfg(test)]
 mod faults;
 #[cfg(test)]
 mod memory;
-#[cfg(test)]
-mod name_limits;
 #[cfg(test)]
 mod names;
 #[cfg(test)]
@@ -31,7 +25,5 @@ mod readers;
 mod script_faults;
 #[cfg(test)]
 mod script_lines;
-#[cfg(test)]
-mod script_readings;
 #[cfg(test)]
 mod written;

@@ -1,7 +1,8 @@
 //! Names and their numbers.
-use super::expected::expect;
-use super::readers::limits;
-use rapid_text::{Kind, NameFault, Names};
+use super::readers::{expect, limits};
+use event_core::{Limits, Roots};
+use rapid_text::{Cause, Cutter, Kind, NameFault, Names, TextFault};
+use std::alloc::Global;
 
 /// The numbers of some names, one after another.
 fn numbers(names: &mut Names) -> [Result<u32, NameFault>; 5] {
@@ -22,4 +23,25 @@ fn names_are_numbered_by_first_appearance(rt: HostRuntime) {
         && names.name(Kind::Thread, 1) == b"x".as_slice();
     expect(&rt, b"thread x is the second of two", &has_second, &true);
     drop(names);
+}
+
+/// What a cutter with one thread answers for a fork that names two; none where there was no memory for one.
+fn answer_to_a_fork(alloc: Global) -> Option<Option<TextFault>> {
+    let limits = Limits::new(1, 1, 1, 8, Roots::OnlyMain).ok()?;
+    let mut cutter = Cutter::new(alloc, limits).ok()?;
+    let answer = cutter.push(b"T0|fork(T1)|1\n");
+    drop(cutter);
+    Some(answer.err())
+}
+
+/// A line has a name too many, and another name is new: want of memory is never its answer, whatever is
+/// refused (`tests/refuse`).
+#[test]
+fn a_name_too_many_comes_first_where_memory_is_refused(rt: HostRuntime) {
+    let fault = TextFault {
+        line: 1,
+        cause: Cause::TooManyNames(Kind::Thread),
+    };
+    let came = answer_to_a_fork(rt.alloc());
+    expect(&rt, b"T0|fork(T1)|1", &came, &Some(Some(fault)));
 }

@@ -1,10 +1,9 @@
 //! Lines that are written, and read again.
-use super::doubles::Page;
-use super::expected::expect;
-use super::readers::limits;
+use super::readers::{expect, limits};
 use rapid_text::{Device, Output, Reader, write_event, write_fault};
 use std::alloc::Global;
 use std::process::Abort;
+use test_doubles::{Page, Room};
 
 /// Reads each event and writes its line: whether all were written, up to the end of the text. None where it
 /// could not be read.
@@ -32,61 +31,46 @@ fn copy<W: Output>(rt: &impl Abort, alloc: Global, text: &[u8], w: &mut W) -> Op
     is_copied
 }
 
-/// Whether the lines of all events are written, in so many puts of at most so many bytes, and how many bytes
-/// of the text are then missing.
-fn copied(rt: &impl Abort, alloc: Global, puts: usize, most: usize) -> (Option<bool>, usize) {
-    let mut page = Page {
-        rest: TEXT,
-        most,
-        puts,
-        failed: false,
-    };
-    let is_copied = copy(rt, alloc, TEXT, &mut page);
-    (is_copied, page.rest.len())
-}
-
 const TEXT: &[u8] =
     b"T0|w(a(b))|\nT0|fork(T1)|1\nT1|acq(l)|2\nT1|rel(l)|3\nT1|r(a(b))|\xff\nT0|join(T1)|4\n";
+
+/// In this room just so many bytes of the text are written.
+fn expect_copied(rt: &impl Abort, alloc: Global, room: Room, len: usize) {
+    let mut page = Page::blank(room);
+    let is_copied = copy(rt, alloc, TEXT, &mut page);
+    let len = len.min(TEXT.len());
+    let wanted = (Some(len == TEXT.len()), &TEXT[..len]);
+    expect(rt, b"a text in parts", &(is_copied, page.bytes()), &wanted);
+}
 
 /// A byte a put, the text takes as many puts as it has bytes.
 #[test]
 fn what_is_written_is_the_text_that_was_read(rt: HostRuntime) {
     for most in [3, 4096] {
-        let copied = copied(&rt, rt.alloc(), 4096, most);
-        expect(&rt, b"a text in parts", &copied, &(Some(true), 0));
+        expect_copied(&rt, rt.alloc(), Room::of(most, 4096), TEXT.len());
     }
     for puts in 0..=TEXT.len() {
-        let copied = copied(&rt, rt.alloc(), puts, 1);
-        let missing = TEXT.len() - puts;
-        expect(
-            &rt,
-            b"so many puts",
-            &copied,
-            &(Some(missing == 0), missing),
-        );
+        expect_copied(&rt, rt.alloc(), Room::of(1, puts), puts);
     }
 }
 
 const FAULT_LINE: &[u8] = b"line 12: Held\n";
 
-/// Whether a fault line is written in so many puts of a byte, and whether the page has then failed.
-fn put_fault_line(puts: usize) -> (bool, bool) {
-    let mut page = Page {
-        rest: FAULT_LINE,
-        most: 1,
-        puts,
-        failed: false,
-    };
-    let is_written = write_fault(&mut page, 12, "Held").is_ok();
-    (is_written && page.rest.is_empty(), page.failed)
-}
-
+/// In so many puts of a byte just so many bytes of the line are written, and the page has failed where they
+/// are too few.
 #[test]
 fn a_fault_line_is_written(rt: HostRuntime) {
     for puts in 0..=FAULT_LINE.len() {
+        let mut page = Page::blank(Room::of(1, puts));
+        let is_written = write_fault(&mut page, 12, "Held").is_ok();
         let is_whole = puts == FAULT_LINE.len();
-        let put = (puts, put_fault_line(puts));
-        expect(&rt, b"a fault line", &put, &(puts, (is_whole, !is_whole)));
+        let came = (is_written, page.failed, page.bytes());
+        expect(
+            &rt,
+            FAULT_LINE,
+            &came,
+            &(is_whole, !is_whole, &FAULT_LINE[..puts]),
+        );
     }
 }
 

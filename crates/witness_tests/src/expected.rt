@@ -1,9 +1,16 @@
-//! What ends a test and prints what it saw.
+//! What ends a test.
+use std::fmt::Debug;
 use std::process::Abort;
 
-/// Ends the test with these words, unless it holds.
-pub fn expect(rt: &impl Abort, holds: bool, what: &str, case: &str, number: usize) {
-    if !holds {
-        panic!(rt; "{case:?} ({number}): {what}")
+/// Ends the test unless what came is what was wanted, and prints both after the place. A library ends no
+/// program, so each crate of tests has this function of its own.
+pub fn expect<T: Copy + PartialEq + Debug>(
+    rt: &impl Abort,
+    place: &impl Debug,
+    came: T,
+    wanted: T,
+) {
+    if came != wanted {
+        panic!(rt; "{place:?}: wanted {wanted:?}, came {came:?}")
     }
 }

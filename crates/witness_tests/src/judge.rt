@@ -150,9 +150,7 @@ pub fn has_witness(
 /// Whether the accesses conflict.
 pub fn conflict(first: &Event, second: &Event) -> bool {
     let same = match (first.op, second.op) {
-        (Op::Load(x), Op::Store(y)) => x == y,
-        (Op::Store(x), Op::Load(y)) => x == y,
-        (Op::Store(x), Op::Store(y)) => x == y,
+        (Op::Load(x), Op::Store(y)) | (Op::Store(x), Op::Load(y) | Op::Store(y)) => x == y,
         _ => false,
     };
     same && first.thread != second.thread

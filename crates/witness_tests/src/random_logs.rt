@@ -1,6 +1,4 @@
 //! Random logs: for each pair of conflicting accesses, the searcher and the judge.
-ghost use Rattle.std.specs.Prelude.{◌<◌};
-
 use crate::expected::expect;
 use crate::judge::{Orders, conflict, has_witness, is_next, may_follow};
 use crate::orders::Order;
@@ -8,6 +6,7 @@ use crate::recorded::Recorded;
 use event_core::{Event, LockId, Op, Roots, ThreadId, VarId};
 use std::alloc::Global;
 use std::process::Abort;
+use test_logs::{Generator, call};
 use witness::Searcher;
 
 const LOGS: usize = 500;
@@ -18,49 +17,29 @@ const EVENTS: u64 = 8;
 // How many calls are tried for one.
 const CALLS: usize = 400;
 
-/// A source of random numbers: xorshift64 (Marsaglia, "Xorshift RNGs", 2003).
-#[derive(Drop)]
-struct Generator {
-    state: u64,
+// What some thread may do.
+fn draw_op(generator: &mut Generator) -> Op {
+    let lock = LockId(generator.below(2));
+    let var = VarId(generator.below(2));
+    let child = ThreadId(generator.below(3));
+    match generator.below(32) {
+        0..=4 => Op::Load(var),
+        5..=12 => Op::Store(var),
+        13..=19 => Op::Acquire(lock),
+        20..=29 => Op::Release(lock),
+        30 => Op::Fork(child),
+        _ => Op::Join(child),
+    }
 }
 
-impl Generator {
-    // A number below the bound.
-    fn below(&mut self, bound: u32) -> u32
-        requires { 0 < bound }
-        ensures { result < bound }
-    {
-        self.state ^= self.state << 13;
-        self.state ^= self.state >> 7;
-        self.state ^= self.state << 17;
-        (self.state % bound as u64) as u32
-    }
-
-    // What some thread may do.
-    fn op(&mut self) -> Op {
-        let lock = LockId(self.below(2));
-        let var = VarId(self.below(2));
-        let child = ThreadId(self.below(3));
-        match self.below(32) {
-            0..=4 => Op::Load(var),
-            5..=12 => Op::Store(var),
-            13..=19 => Op::Acquire(lock),
-            20..=29 => Op::Release(lock),
-            30 => Op::Fork(child),
-            _ => Op::Join(child),
+// Makes calls until the log has its events.
+fn fill(generator: &mut Generator, recorded: &mut Recorded) {
+    for _call in 0..CALLS {
+        if EVENTS <= recorded.len() {
+            return;
         }
-    }
-
-    // Makes calls until the log has its events.
-    fn fill(&mut self, recorded: &mut Recorded) {
-        for _call in 0..CALLS {
-            if EVENTS <= recorded.len() {
-                return;
-            }
-            let thread = ThreadId(self.below(3));
-            let op = self.op();
-            recorded.make(thread, op);
-        }
+        let thread = ThreadId(generator.below(3));
+        recorded.make(&call(thread, draw_op(generator), 0));
     }
 }
 
@@ -104,19 +83,12 @@ fn compare(
     match found {
         Some(witness) => {
             seen.given = seen.given.saturating_add(1);
-            expect(
-                rt,
-                any,
-                "a witness where there is none",
-                "random log",
-                number,
-            );
             let is = is_witness(events, &witness.events, i, j);
-            expect(rt, is, "no witness is given for one", "random log", number);
+            expect(rt, &("a witness", number, i, j), (any, is), (true, true));
         }
         None => {
             seen.none = seen.none.saturating_add(1);
-            expect(rt, !kept, "a witness is missed", "random log", number);
+            expect(rt, &("a witness is missed", number, i, j), kept, false);
         }
     }
 }
@@ -142,7 +114,7 @@ fn compare_log(
 
 #[test]
 fn the_searcher_and_the_judge_answer_alike(rt: HostRuntime) {
-    let mut generator = Generator { state: 78 };
+    let mut generator = Generator::new(78);
     let mut seen = Seen { given: 0, none: 0 };
     for number in 0..LOGS {
         let roots = if number % 2 == 0 {
@@ -151,21 +123,14 @@ fn the_searcher_and_the_judge_answer_alike(rt: HostRuntime) {
             Roots::OnlyMain
         };
         let mut recorded = Recorded::new(&rt, rt.alloc(), roots);
-        generator.fill(&mut recorded);
+        fill(&mut generator, &mut recorded);
         compare_log(&rt, rt.alloc(), &recorded, number, &mut seen);
     }
     expect(
         &rt,
+        &("with a witness", seen.given),
         200 <= seen.given,
-        "too few with a witness",
-        "random logs",
-        seen.given as usize,
+        true,
     );
-    expect(
-        &rt,
-        100 <= seen.none,
-        "too few with none",
-        "random logs",
-        seen.none as usize,
-    );
+    expect(&rt, &("with none", seen.none), 100 <= seen.none, true);
 }

@@ -2,7 +2,7 @@
 ghost use Rattle.std.specs.Prelude.{◌≡◌};
 ghost use Rattle.traced_mem.specs.Standing.{StandsFor};
 
-use event_core::{Call, Event, Limits, Log, Op, OutOfMemory, Roots, SiteId, ThreadId};
+use event_core::{Call, Event, Limits, Log, OutOfMemory, Roots};
 use std::alloc::Global;
 use std::marker::Model;
 use std::process::Abort;
@@ -57,15 +57,9 @@ impl Recorded {
 
     /// Makes the call, if it is permitted, and answers whether it was. Where memory is refused it is made
     /// again.
-    pub fn make(&mut self, thread: ThreadId, op: Op) -> bool {
-        let call = Call {
-            thread,
-            op,
-            site: SiteId(0),
-            arg: 0,
-        };
+    pub fn make(&mut self, call: &Call) -> bool {
         for _trial in 0..2 {
-            if let Ok(made) = perform(&mut self.log, &mut self.memory, &call) {
+            if let Ok(made) = perform(&mut self.log, &mut self.memory, call) {
                 return made;
             }
         }

@@ -1,24 +1,9 @@
 //! The worked logs.
-use event_core::{LockId, Op, ThreadId, VarId};
-
-pub const T0: ThreadId = ThreadId(0);
-
-pub const T1: ThreadId = ThreadId(1);
-
-pub const T2: ThreadId = ThreadId(2);
-
-pub const L: LockId = LockId(0);
-
-pub const M: LockId = LockId(1);
-
-pub const X: VarId = VarId(0);
-
-pub const Y: VarId = VarId(1);
+use event_core::{LockId, Op, ThreadId};
+use test_logs::{IDLE_CHILD, INNER_RELEASE, L, NESTED_SECTIONS, T0, T1, T2};
 
 /// What is done, or what is found.
 pub enum Row {
-    /// The next event.
-    Take(ThreadId, Op),
     /// The numbers of the thread's clock of program order.
     Po(ThreadId, [u64; 3]),
     /// The numbers of the thread's clock of happens-before.
@@ -41,80 +26,65 @@ pub enum Row {
     Joined(ThreadId, ThreadId, [u64; 3]),
 }
 
-pub const NESTED_SECTIONS: &[Row] = &[
-    Row::Take(T0, Op::Fork(T1)),
-    Row::Take(T0, Op::Acquire(L)),
-    Row::Take(T0, Op::Acquire(M)),
-    Row::Take(T0, Op::Store(X)),
-    Row::Take(T0, Op::Release(M)),
-    Row::Take(T0, Op::Store(Y)),
-    Row::Take(T0, Op::Release(L)),
-    Row::Take(T1, Op::Acquire(M)),
-    Row::Po(T1, [1, 1, 0]),
-    Row::Hb(T1, [5, 1, 0]),
-    Row::Take(T1, Op::Load(X)),
-    Row::Take(T1, Op::Release(M)),
-    Row::Take(T1, Op::Acquire(L)),
-    Row::Hb(T1, [7, 4, 0]),
-    Row::Take(T1, Op::Release(L)),
-    Row::Take(T1, Op::Load(Y)),
-    Row::Hb(T1, [7, 6, 0]),
-    Row::Po(T1, [1, 6, 0]),
-];
+/// A log, and rows in turn, each after so many of its events.
+pub type Case = (&'static str, &'static [(usize, Row)]);
 
-pub const EMPTY_CHILD: &[Row] = &[
-    Row::Take(T0, Op::Store(X)),
-    Row::Take(T0, Op::Fork(T1)),
-    Row::Po(T1, [2, 0, 0]),
-    Row::Po(T2, [0, 0, 0]),
-    Row::Take(T2, Op::Join(T1)),
-    Row::Po(T2, [2, 0, 1]),
-    Row::Hb(T2, [2, 0, 1]),
-];
+pub const NESTED: Case = (
+    NESTED_SECTIONS,
+    &[
+        (8, Row::Po(T1, [1, 1, 0])),
+        (8, Row::Hb(T1, [5, 1, 0])),
+        (11, Row::Hb(T1, [7, 4, 0])),
+        (13, Row::Hb(T1, [7, 6, 0])),
+        (13, Row::Po(T1, [1, 6, 0])),
+    ],
+);
 
-pub const INNER_RELEASE: &[Row] = &[
-    Row::Take(T0, Op::Fork(T1)),
-    Row::Take(T0, Op::Acquire(L)),
-    Row::Take(T0, Op::Acquire(L)),
-    Row::Depth(T0, L, 2),
-    Row::Take(T0, Op::Release(L)),
-    Row::Depth(T0, L, 1),
-    Row::Admits(T1, Op::Acquire(L), false),
-    Row::Take(T0, Op::Store(X)),
-    Row::Take(T0, Op::Release(L)),
-    Row::Depth(T0, L, 0),
-    Row::Take(T1, Op::Acquire(L)),
-    Row::Hb(T1, [6, 1, 0]),
-    Row::Po(T1, [1, 1, 0]),
-];
+pub const IDLE: Case = (
+    IDLE_CHILD,
+    &[
+        (2, Row::Po(T1, [2, 0, 0])),
+        (2, Row::Po(T2, [0, 0, 0])),
+        (3, Row::Po(T2, [2, 0, 1])),
+        (3, Row::Hb(T2, [2, 0, 1])),
+    ],
+);
 
-pub const MARKED: &[Row] = &[
-    Row::Take(T0, Op::Acquire(L)),
-    Row::Mark(T0),
-    Row::Counts(T0, [true, true]),
-    Row::Take(T1, Op::Store(X)),
-    Row::Counts(T1, [false, false]),
-    Row::Take(T0, Op::Release(L)),
-    Row::Take(T1, Op::Acquire(L)),
-    Row::Counts(T1, [false, true]),
-];
+pub const INNER: Case = (
+    INNER_RELEASE,
+    &[
+        (3, Row::Depth(T0, L, 2)),
+        (4, Row::Depth(T0, L, 1)),
+        (4, Row::Admits(T1, Op::Acquire(L), false)),
+        (6, Row::Depth(T0, L, 0)),
+        (7, Row::Hb(T1, [6, 1, 0])),
+        (7, Row::Po(T1, [1, 1, 0])),
+    ],
+);
 
-pub const GREATER: &[Row] = &[
-    Row::Take(T0, Op::Store(X)),
-    Row::Take(T0, Op::Store(Y)),
-    Row::Take(T2, Op::Store(X)),
-    Row::Clock([0, 0, 0]),
-    Row::Copy(T2),
-    Row::Clock([0, 0, 1]),
-    Row::Copy(T0),
-    Row::Clock([2, 0, 0]),
-    Row::Join(T2),
-    Row::Clock([2, 0, 1]),
-];
+pub const MARKED: Case = (
+    "T0|acq(l)|1\nT1|w(x)|2\nT0|rel(l)|3\nT1|acq(l)|4\n",
+    &[
+        (1, Row::Mark(T0)),
+        (1, Row::Counts(T0, [true, true])),
+        (2, Row::Counts(T1, [false, false])),
+        (4, Row::Counts(T1, [false, true])),
+    ],
+);
 
-pub const READ_AS_ONE: &[Row] = &[
-    Row::Take(T0, Op::Store(X)),
-    Row::Take(T0, Op::Store(Y)),
-    Row::Take(T2, Op::Store(X)),
-    Row::Joined(T0, T2, [2, 0, 1]),
-];
+const OF_TWO_THREADS: &str = "T0|w(x)|1\nT0|w(y)|2\nT2|w(x)|3\n";
+
+pub const GREATER: Case = (
+    OF_TWO_THREADS,
+    &[
+        (3, Row::Clock([0, 0, 0])),
+        (3, Row::Copy(T2)),
+        (3, Row::Clock([0, 0, 1])),
+        (3, Row::Copy(T0)),
+        (3, Row::Clock([2, 0, 0])),
+        (3, Row::Join(T2)),
+        (3, Row::Clock([2, 0, 1])),
+    ],
+);
+
+pub const READ_AS_ONE: Case = (OF_TWO_THREADS, &[(3, Row::Joined(T0, T2, [2, 0, 1]))]);

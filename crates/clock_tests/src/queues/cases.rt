@@ -1,20 +1,11 @@
 //! What is done with closed sections, and found of them.
 use event_core::{LockId, ThreadId};
-
-pub const T0: ThreadId = ThreadId(0);
-
-pub const T1: ThreadId = ThreadId(1);
-
-pub const T2: ThreadId = ThreadId(2);
-
-pub const L: LockId = LockId(0);
-
-pub const M: LockId = LockId(1);
+use test_logs::{L, M, T0, T1, T2};
 
 /// What is done, or what is found.
 pub enum Row {
-    /// The thread has one event more.
-    Take(ThreadId),
+    /// The thread has so many events more.
+    Take(ThreadId, u32),
     /// It forks the other one.
     Fork(ThreadId, ThreadId),
     /// The thread has the first section on the lock, from its latest event on.
@@ -32,10 +23,10 @@ pub enum Row {
     Clock([u64; 3]),
 }
 
-pub const TWO_THREADS: &[Row] = &[Row::Take(T0), Row::Take(T1), Row::Close(T0, L)];
+pub const TWO_THREADS: &[Row] = &[Row::Take(T0, 1), Row::Take(T1, 1), Row::Close(T0, L)];
 
 pub const ONE_SECTION: &[Row] = &[
-    Row::Take(T1),
+    Row::Take(T1, 1),
     Row::Count(L, 0),
     Row::Close(T1, L),
     Row::Count(L, 1),
@@ -43,11 +34,8 @@ pub const ONE_SECTION: &[Row] = &[
 ];
 
 pub const RELEASES: &[Row] = &[
-    Row::Take(T0),
-    Row::Take(T0),
-    Row::Take(T1),
-    Row::Take(T1),
-    Row::Take(T1),
+    Row::Take(T0, 2),
+    Row::Take(T1, 3),
     Row::Close(T1, L),
     Row::Section(L, 1, T1, [0, 3, 0]),
     Row::Copy(T0),
@@ -65,25 +53,16 @@ pub const RELEASES: &[Row] = &[
 // forks both.
 pub const THREE_THREADS: &[Row] = &[
     Row::Fork(T0, T1),
-    Row::Take(T1),
-    Row::Take(T1),
-    Row::Take(T1),
-    Row::Take(T1),
-    Row::Take(T1),
+    Row::Take(T1, 5),
     Row::Close(T1, L),
     Row::Section(L, 1, T1, [1, 5, 0]),
-    Row::Take(T0),
+    Row::Take(T0, 1),
     Row::Copy(T0),
     Row::Clock([2, 0, 0]),
     Row::JoinRelease(L, 1),
     Row::Clock([2, 5, 0]),
     Row::Fork(T0, T2),
-    Row::Take(T2),
-    Row::Take(T2),
-    Row::Take(T2),
-    Row::Take(T2),
-    Row::Take(T2),
-    Row::Take(T2),
+    Row::Take(T2, 6),
     Row::Close(T2, M),
     Row::Section(M, 1, T2, [3, 0, 6]),
     Row::JoinRelease(M, 1),

@@ -1,126 +1,69 @@
 //! Small logs with the numbers of their strict clocks.
-use event_core::{LockId, Op, ThreadId, VarId};
+use event_core::ThreadId;
+use test_logs::{NESTED_SECTIONS, RELEASES_OF_ONE_THREAD, T0, T1};
 
-pub const MAIN: ThreadId = ThreadId(0);
+/// A log, and how many events of each thread strictly precede its events.
+pub struct Case {
+    pub text: &'static str,
+    /// `(9, T1, [5, 0, 0])`: from event 9 on, five events of T0 strictly precede each event of T1, and none
+    /// of T1 and T2. Before its first entry no events precede a thread's events.
+    pub strict: &'static [(usize, ThreadId, [u64; 3])],
+    /// The thread of the last event, and how many are below it.
+    pub last: ThreadId,
+    pub below: [u64; 3],
+}
 
-pub const CHILD: ThreadId = ThreadId(1);
+// T1's load takes the release of m, T0's fifth event, and with it the acquire of T0's section on l. So T1's
+// release of l takes T0's release of l, its seventh event.
+pub const EARLIER_RELEASE: Case = Case {
+    text: NESTED_SECTIONS,
+    strict: &[(9, T1, [5, 0, 0]), (12, T1, [7, 0, 0])],
+    last: T1,
+    below: [7, 6, 0],
+};
 
-pub const OTHER: ThreadId = ThreadId(2);
-
-const L: LockId = LockId(0);
-
-pub const K: LockId = LockId(1);
-
-pub const M: LockId = LockId(2);
-
-pub const N: LockId = LockId(3);
-
-pub const X: VarId = VarId(0);
-
-pub const Y: VarId = VarId(1);
-
-pub const Z: VarId = VarId(2);
-
-/// An event, and of each thread how many events strictly precede it.
-pub type Line = (ThreadId, Op, [u64; 3]);
-
-// The child's load takes the release of k, main's fifth event, and with it the acquire of main's section
-// on l. So the child's release of l takes main's release of l, its seventh event.
-pub const EARLIER_RELEASE: &[Line] = &[
-    (MAIN, Op::Fork(CHILD), [0, 0, 0]),
-    (MAIN, Op::Acquire(L), [0, 0, 0]),
-    (MAIN, Op::Acquire(K), [0, 0, 0]),
-    (MAIN, Op::Store(X), [0, 0, 0]),
-    (MAIN, Op::Release(K), [0, 0, 0]),
-    (MAIN, Op::Store(Y), [0, 0, 0]),
-    (MAIN, Op::Release(L), [0, 0, 0]),
-    (CHILD, Op::Acquire(K), [0, 0, 0]),
-    (CHILD, Op::Load(X), [5, 0, 0]),
-    (CHILD, Op::Release(K), [5, 0, 0]),
-    (CHILD, Op::Acquire(L), [5, 0, 0]),
-    (CHILD, Op::Release(L), [7, 0, 0]),
-    (CHILD, Op::Load(Y), [7, 0, 0]),
-];
-
-// The child's load takes main's release of m, and with it the acquire of main's first section on l. The
-// lock k brings that to main. So main's second release of l takes the first, main's ninth event, and the
-// three events of the other thread that happen before it.
-pub const RELEASES_OF_ONE_THREAD: &[Line] = &[
-    (MAIN, Op::Fork(CHILD), [0, 0, 0]),
-    (MAIN, Op::Fork(OTHER), [0, 0, 0]),
-    (OTHER, Op::Store(Z), [0, 0, 0]),
-    (OTHER, Op::Acquire(N), [0, 0, 0]),
-    (OTHER, Op::Release(N), [0, 0, 0]),
-    (MAIN, Op::Acquire(L), [0, 0, 0]),
-    (MAIN, Op::Acquire(M), [0, 0, 0]),
-    (MAIN, Op::Store(X), [0, 0, 0]),
-    (MAIN, Op::Release(M), [0, 0, 0]),
-    (MAIN, Op::Acquire(N), [0, 0, 0]),
-    (MAIN, Op::Release(N), [0, 0, 0]),
-    (MAIN, Op::Release(L), [0, 0, 0]),
-    (CHILD, Op::Acquire(M), [0, 0, 0]),
-    (CHILD, Op::Load(X), [6, 0, 0]),
-    (CHILD, Op::Release(M), [6, 0, 0]),
-    (CHILD, Op::Acquire(K), [6, 0, 0]),
-    (CHILD, Op::Release(K), [6, 0, 0]),
-    (MAIN, Op::Acquire(K), [6, 0, 0]),
-    (MAIN, Op::Release(K), [6, 0, 0]),
-    (MAIN, Op::Acquire(L), [6, 0, 0]),
-    (MAIN, Op::Release(L), [9, 0, 3]),
-    (MAIN, Op::Load(Z), [9, 0, 3]),
-];
+// T1's load takes T0's release of m, and with it the acquire of T0's first section on l. The lock k brings
+// that to T0. So T0's second release of l takes the first, T0's ninth event, and the three events of T2 that
+// happen before it.
+pub const OF_ONE_THREAD: Case = Case {
+    text: RELEASES_OF_ONE_THREAD,
+    strict: &[
+        (14, T1, [6, 0, 0]),
+        (18, T0, [6, 0, 0]),
+        (21, T0, [9, 0, 3]),
+    ],
+    last: T0,
+    below: [14, 0, 3],
+};
 
 // The section on l ends before the store to y, and the section on k after it.
-pub const CROSSED_SECTIONS: &[Line] = &[
-    (MAIN, Op::Fork(CHILD), [0, 0, 0]),
-    (MAIN, Op::Acquire(L), [0, 0, 0]),
-    (MAIN, Op::Acquire(K), [0, 0, 0]),
-    (MAIN, Op::Store(X), [0, 0, 0]),
-    (MAIN, Op::Release(L), [0, 0, 0]),
-    (MAIN, Op::Store(Y), [0, 0, 0]),
-    (MAIN, Op::Release(K), [0, 0, 0]),
-    (CHILD, Op::Acquire(L), [0, 0, 0]),
-    (CHILD, Op::Load(X), [5, 0, 0]),
-    (CHILD, Op::Load(Y), [5, 0, 0]),
-    (CHILD, Op::Release(L), [5, 0, 0]),
-    (CHILD, Op::Acquire(K), [5, 0, 0]),
-    (CHILD, Op::Load(Y), [7, 0, 0]),
-    (CHILD, Op::Release(K), [7, 0, 0]),
-    (MAIN, Op::Join(CHILD), [7, 0, 0]),
-];
+pub const CROSSED: Case = Case {
+    text: "T0|fork(T1)|1\nT0|acq(l)|2\nT0|acq(k)|3\nT0|w(x)|4\nT0|rel(l)|5\nT0|w(y)|6\nT0|rel(k)|7\n\
+        T1|acq(l)|8\nT1|r(x)|9\nT1|r(y)|10\nT1|rel(l)|11\nT1|acq(k)|12\nT1|r(y)|13\nT1|rel(k)|14\n\
+        T0|join(T1)|15\n",
+    strict: &[(9, T1, [5, 0, 0]), (13, T1, [7, 0, 0]), (15, T0, [7, 0, 0])],
+    last: T0,
+    below: [8, 7, 0],
+};
 
-// Main's sections on l and on m overlap, and the store to x is in the first alone. So by rule (a) the child's
-// load of x takes main's release of l, its fifth event, and no more. Main's acquire of m, its fourth event,
-// happens before that release, so it strictly precedes the load, which is in the child's section on m. So by
-// rule (b) the child's release of m takes main's release of m, its seventh event. Its release of l does not.
-pub const OVERLAPPING_SECTIONS: &[Line] = &[
-    (MAIN, Op::Fork(CHILD), [0, 0, 0]),
-    (MAIN, Op::Acquire(L), [0, 0, 0]),
-    (MAIN, Op::Store(X), [0, 0, 0]),
-    (MAIN, Op::Acquire(M), [0, 0, 0]),
-    (MAIN, Op::Release(L), [0, 0, 0]),
-    (MAIN, Op::Store(Y), [0, 0, 0]),
-    (MAIN, Op::Release(M), [0, 0, 0]),
-    (CHILD, Op::Acquire(L), [0, 0, 0]),
-    (CHILD, Op::Acquire(M), [0, 0, 0]),
-    (CHILD, Op::Load(X), [5, 0, 0]),
-    (CHILD, Op::Release(L), [5, 0, 0]),
-    (CHILD, Op::Release(M), [7, 0, 0]),
-    (CHILD, Op::Load(Y), [7, 0, 0]),
-];
+// T0's sections on l and on m overlap, and the store to x is in the first alone. So by rule (a) T1's load of
+// x takes T0's release of l, its fifth event, and no more. T0's acquire of m, its fourth event, happens
+// before that release, so it strictly precedes the load, which is in T1's section on m. So by rule (b) T1's
+// release of m takes T0's release of m, its seventh event. Its release of l does not.
+pub const OVERLAPPING: Case = Case {
+    text: "T0|fork(T1)|1\nT0|acq(l)|2\nT0|w(x)|3\nT0|acq(m)|4\nT0|rel(l)|5\nT0|w(y)|6\nT0|rel(m)|7\n\
+        T1|acq(l)|8\nT1|acq(m)|9\nT1|r(x)|10\nT1|rel(l)|11\nT1|rel(m)|12\nT1|r(y)|13\n",
+    strict: &[(10, T1, [5, 0, 0]), (12, T1, [7, 0, 0])],
+    last: T1,
+    below: [7, 6, 0],
+};
 
 // Both stores come after an inner release, and are in the sections of the outer acquires. The outer release
-// is main's sixth event.
-pub const INNER_RELEASES: &[Line] = &[
-    (MAIN, Op::Fork(CHILD), [0, 0, 0]),
-    (MAIN, Op::Acquire(L), [0, 0, 0]),
-    (MAIN, Op::Acquire(L), [0, 0, 0]),
-    (MAIN, Op::Release(L), [0, 0, 0]),
-    (MAIN, Op::Store(X), [0, 0, 0]),
-    (MAIN, Op::Release(L), [0, 0, 0]),
-    (CHILD, Op::Acquire(L), [0, 0, 0]),
-    (CHILD, Op::Acquire(L), [0, 0, 0]),
-    (CHILD, Op::Release(L), [0, 0, 0]),
-    (CHILD, Op::Store(X), [6, 0, 0]),
-    (CHILD, Op::Release(L), [6, 0, 0]),
-];
+// is T0's sixth event.
+pub const INNER: Case = Case {
+    text: "T0|fork(T1)|1\nT0|acq(l)|2\nT0|acq(l)|3\nT0|rel(l)|4\nT0|w(x)|5\nT0|rel(l)|6\nT1|acq(l)|7\n\
+        T1|acq(l)|8\nT1|rel(l)|9\nT1|w(x)|10\nT1|rel(l)|11\n",
+    strict: &[(10, T1, [6, 0, 0])],
+    last: T1,
+    below: [6, 5, 0],
+};
