@@ -40,6 +40,7 @@ FieldsSay bytes (Ok f) = HasFields bytes f.0 f.1 f.2
 FieldsSay bytes (Err f) =
     ((f ≡ FewFields) × (count 124 bytes < 2)) ⊎ ((f ≡ ManyFields) × (2 < count 124 bytes))
 
+-- the reading of a content gives its three fields, or states that it has too few bars or too many
 pub fields_say : (bytes : List ℕ) → FieldsSay bytes (fields_of bytes)
 fields_say bytes =
     or_fault_by (FieldsSay bytes) FewFields (cut 124 bytes) _
@@ -59,6 +60,7 @@ fields_say bytes =
       location_bar = lacks;
     })))
 
+-- a content of three fields has two bars
 pub two_bars : {bytes t o l : List ℕ} → HasFields bytes t o l → count 124 bytes ≡ 2
 two_bars {bytes} {t} {o} {l} h =
     let one : IsCut 124 bytes t (o ++ 124 ∷ l) = record { is = h.is; lacks = h.thread_bar } in
@@ -68,6 +70,7 @@ two_bars {bytes} {t} {o} {l} h =
     let z = count-Lacks 124 l h.location_bar in
     omega (arith, n, m, z)
 
+-- a content has three fields in one way only
 pub one_split : {bytes a b c t o l : List ℕ} → HasFields bytes a b c → HasFields bytes t o l
     → ◌≡◌ {A = List ℕ × List ℕ × List ℕ} (a, b, c) (t, o, l)
 one_split h k = ok_inj _ _ (sym (fields_again h) ∙ fields_again k)
@@ -99,11 +102,12 @@ word_found bytes w e =
     test_word bytes (spelling Fork) Fork _ _ w e₄ refl refl (λ e₅.
     test_word bytes (spelling Join) Join None _ w e₅ refl refl (λ e₆. absurd cc))))))
 
--- the field is an operation, or it is none
+-- the field is this operation, or the fault is BadOp
 abbrev pub OperationSays : List ℕ → Result (Word × List ℕ) LineFault → Type 0
 OperationSays field (Ok o) = field ≡ operation o.0 o.1
 OperationSays field (Err f) = f ≡ BadOp
 
+-- the operation that is read of a field is written as the field, and the only fault is BadOp
 pub operation_says : (field : List ℕ) → OperationSays field (operation_of field)
 operation_says field =
     or_fault_by (OperationSays field) BadOp (cut 40 field) _ (λ none. refl) (λ p at.

@@ -10,7 +10,7 @@ use Rattle.rapid_line.specs.declared.marks.Marks.{Marks}
 use Rattle.rapid_line.specs.Marks.{IsMarked, IsBarred}
 use Rattle.rapid_line.proofs.CutProperties.{cut_first_byte, lacks_below}
 
--- what stands after the first bar
+-- what stands after a place
 abbrev pub after : ℕ → List ℕ → List ℕ
 after i xs = take (length xs - (i + 1)) (drop (i + 1) xs)
 
@@ -23,6 +23,7 @@ get_or-after : (i : ℕ) (xs : List ℕ) (k : ℕ) → k < length xs - (i + 1)
 get_or-after i xs k lt =
     get_or-take (length xs - (i + 1)) (drop (i + 1) xs) k 0 lt ∙ get_or-drop (i + 1) xs k 0
 
+-- the fields of a line stand before, between and after its two bars
 pub fields_barred : (bytes : List ℕ) (first second : ℕ) → IsBarred bytes first second
     → fields_of bytes ≡ Ok (
       take first bytes,
@@ -54,7 +55,7 @@ fields_barred bytes first second h =
     ∙ (sym (get_or-drop (at + 1) rest k 0) ∙ eqb-true (get_or (drop (at + 1) rest) k 0) 124 is))) in
     rw (cut_one, cut_two, last) refl
 
--- what a content comes to whose fields are known
+-- a short content without CR, whose fields are known, is read by its operation and its names
 pub line_fielded : (bytes : List ℕ) (f : List ℕ × List ℕ × List ℕ) → length bytes ≤ 1024
     → Lacks 13 bytes → fields_of bytes ≡ Ok f
     → line_of bytes ≡ and_then (operation_of f.1) (λ o. names_of f.0 f.2 o.0 o.1)
@@ -65,12 +66,14 @@ line_fielded bytes f short cr is =
 
 -- ---- the first line of a text
 
+-- a marked text is cut at the end of its first line
 pub cut_marked : (text : List ℕ) (m : Marks) → IsMarked text m
     → cut 10 text ≡ Some (take m.end text, after m.end text)
 cut_marked text m h =
     cut_first_byte 10 text m.end h.within
     (λ k _ lt is. h.no_lf k lt (eqb-true (get_or text k 0) 10 is)) (eq-eqb (get_or text m.end 0) 10 h.end)
 
+-- the first line of a marked text has its bars where the marks are
 pub barred_marked : (text : List ℕ) (m : Marks) → IsMarked text m
     → IsBarred (take m.end text) m.first_bar m.second_bar
 barred_marked text m h =

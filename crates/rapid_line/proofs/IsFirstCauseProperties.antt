@@ -201,10 +201,12 @@ says bytes =
 
 -- ---- what it answers
 
+-- the event that is read of a content without LF is its named event
 pub read_found : (bytes : List ℕ) (e : NamedEvent) → Lacks 10 bytes → line_of bytes ≡ ok_named e
     → IsNamed bytes e
 read_found bytes e lf eq = (subst (λ (r : Result NamedEvent LineFault). Says bytes r) eq (says bytes)).1 lf
 
+-- the fault that is read of a content is its first cause
 pub read_first : (bytes : List ℕ) (f : LineFault) → line_of bytes ≡ Err f → IsFirstCause bytes f
 read_first bytes f eq = subst (λ (r : Result NamedEvent LineFault). Says bytes r) eq (says bytes)
 
@@ -215,14 +217,17 @@ answered_by bytes f (Ok e) s h = absurd (s.0 f h.applies)
 answered_by bytes f (Err g) s h =
     ap (λ (x : LineFault). let r : Result NamedEvent LineFault = Err x in r) (one_first s h)
 
+-- the first cause of a content is the fault that is read
 pub first_answered : (bytes : List ℕ) (f : LineFault) → IsFirstCause bytes f → line_of bytes ≡ Err f
 first_answered bytes f h = answered_by bytes f (line_of bytes) (says bytes) h
 
+-- a function that answers as the reading does gives the named event of a content without LF
 pub found_of : (bytes : List ℕ) (r : Result NamedLine LineFault) → Lacks 10 bytes
     → Gives named_of r (line_of bytes) → IfOk r (λ line. IsNamed bytes (named_of line))
 found_of bytes (Ok line) lf g = read_found bytes (named_of line) lf g
 found_of bytes (Err f) lf g = tt
 
+-- a function that answers as the reading does gives the first cause
 pub first_of : (bytes : List ℕ) (r : Result NamedLine LineFault) → Gives named_of r (line_of bytes)
     → IfErr r (IsFirstCause bytes)
 first_of bytes (Ok line) g = tt

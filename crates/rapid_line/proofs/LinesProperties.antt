@@ -31,17 +31,17 @@ use Rattle.rapid_line.specs.Cut.{has, Lacks, cut}
 use Rattle.rapid_line.specs.Lines.{Lines, onto_first, lines_of, line_start, to_come, Cuts, Keeps, IsTooLong}
 use Rattle.rapid_line.proofs.CutProperties.{Lacks-append, IsCut-at, cut_None}
 
--- a line, and what follows its LF
+-- what stands before the first LF is the first line, and the lines of the rest follow
 pub lines_of_line : (a b : List ℕ) → Lacks 10 a → lines_of (a ++ 10 ∷ b) ≡ a ∷ lines_of b
 lines_of_line [] b h = refl
 lines_of_line (x ∷ a) b h = grind (arith, nat_tests, lines_of_line a b)
 
--- a line without an ending
+-- a text without LF that is not empty is one line
 pub lines_of_rest : (x : ℕ) (a : List ℕ) → Lacks 10 (x ∷ a) → lines_of (x ∷ a) ≡ (x ∷ a) ∷ []
 lines_of_rest x [] h = grind (arith, nat_tests)
 lines_of_rest x (y ∷ a) h = grind (arith, nat_tests, lines_of_rest y a)
 
--- the first line of a text goes on at least as far as no LF comes
+-- the first line of the text begins with these bytes
 pub record Begins (a text : List ℕ) : Type 0 where
   pub first : List ℕ
   pub rest : List (List ℕ)
@@ -55,6 +55,7 @@ onto_cases : (x : ℕ) (ls : List (List ℕ))
 onto_cases x [] = ([], [], refl)
 onto_cases x (l ∷ ls) = (l, ls, refl)
 
+-- the first line of a text begins with all that stands before an LF
 pub begins : (x : ℕ) (a more : List ℕ) → Lacks 10 (x ∷ a) → Begins (x ∷ a) ((x ∷ a) ++ more)
 begins x [] more h =
     let n = (or_parts (x == 10) false h).0 in
@@ -90,6 +91,7 @@ line_first kept piece end rest more lf e =
     ∙ ap (λ (t : List ℕ). lines_of t) (regroup kept end rest more)
     ∙ lines_of_line (kept ++ end) (rest ++ more) (Lacks-append 10 kept end lf c.lacks)
 
+-- a line that ends in the piece is what was kept and what stands before the first LF
 pub cuts : {old new : Lines} {piece line end rest : List ℕ} → Lacks 10 old.kept
     → Some (end, rest) ≡ cut 10 piece → line ≡ old.kept ++ end → new.kept ≡ []
     → new.unfinished ≡ old.unfinished + 1 → new.taken ≡ old.taken + (length end + 1)
@@ -108,14 +110,14 @@ cuts {old} {new} {piece} {line} {end} {rest} lf e whole none number taken = reco
   taken = taken;
 }
 
--- whatever follows what was kept, the lines to come are the same
+-- whatever follows a piece that was kept, the lines to come are the same
 pub keeps_law : {old new : Lines} {piece : List ℕ} → Keeps old piece new → (more : List ℕ)
     → to_come old (piece ++ more) ≡ to_come new more
 keeps_law {old} {piece = piece} k more =
     ap (λ (t : List ℕ). lines_of t) (sym (append_assoc old.kept piece more))
     ∙ ap (λ (t : List ℕ). lines_of (t ++ more)) (sym k.kept)
 
--- room for a line of the piece, with its LF
+-- a piece is as long as the end of its first line, the LF and the rest
 pub end_within : (piece end rest : List ℕ) → Some (end, rest) ≡ cut 10 piece
     → length end + 1 + length rest ≡ length piece
 end_within piece end rest e =
@@ -124,7 +126,7 @@ end_within piece end rest e =
     let same = ap (λ (t : List ℕ). length t) c.is in
     omega arith
 
--- a line that ended is too long
+-- a line that ended after more than 1,025 bytes is too long
 pub long_line : (old : Lines) (piece end rest : List ℕ) → Lacks 10 old.kept
     → Some (end, rest) ≡ cut 10 piece → 1025 < length (old.kept ++ end) → IsTooLong old piece
 long_line old piece end rest lf e long =
@@ -146,7 +148,7 @@ too_long (x ∷ a) more lf long =
     let parts = length-append (x ∷ a) b.first in
     ((x ∷ a) ++ b.first, b.rest, b.is, omega (arith, parts))
 
--- a line that goes on is too long
+-- a line that goes on after more than 1,025 bytes is too long
 pub long_rest : (old : Lines) (piece : List ℕ) → Lacks 10 old.kept → None ≡ cut 10 piece
     → 1025 < length (old.kept ++ piece) → IsTooLong old piece
 long_rest old piece lf e long =
@@ -159,9 +161,10 @@ long_rest old piece lf e long =
           (found.0, found.1, text ∙ found.2, found.3);
     }
 
--- what is kept is the last line
+-- what is kept, if it is not empty, is the last line of a text that ends there
 pub last_line : (kept : List ℕ) → Lacks 10 kept → 0 < length kept → lines_of (kept ++ []) ≡ kept ∷ []
 last_line [] lf some = absurd (omega arith)
 last_line (x ∷ a) lf some = ap (λ (t : List ℕ). lines_of t) (append-nil (x ∷ a)) ∙ lines_of_rest x a lf
 
+-- what is known of the line that a cutter gives, or of the part that it keeps
 pub ruleset next_lines = (long_line, long_rest, end_within, cut_None, Lacks-append, length-append)

@@ -17,7 +17,7 @@ spelling_lacks : (w : Word) → Lacks 40 (spelling w)
 spelling_lacks Load = refl
 spelling_lacks _ = refl
 
--- none of the words has a byte of the grammar's own
+-- a word has no bar, no CR and no LF, and at most four bytes
 pub spelling_plain : (w : Word)
     → Lacks 124 (spelling w) × Lacks 13 (spelling w) × Lacks 10 (spelling w) × (length (spelling w) ≤ 4)
 spelling_plain Load = (refl, refl, refl, omega arith)
@@ -28,10 +28,12 @@ unfolding word_of
 word_again Load = refl
 word_again _ = refl
 
+-- a field that has a word before its first parenthesis is read as the word and its argument
 pub operation_ahead : (field : List ℕ) (w : Word) (rest : List ℕ) → cut 40 field ≡ Some (spelling w, rest)
     → operation_of field ≡ argument_of w rest
 operation_ahead field w rest e = rw e (rw (word_again w) refl)
 
+-- an operation is read as it was written
 pub operation_again : (w : Word) (argument : List ℕ)
     → operation_of (operation w argument) ≡ Ok (w, argument)
 operation_again w argument =
@@ -39,6 +41,7 @@ operation_again w argument =
     (cut_at 40 (spelling w) (argument ++ 41 ∷ []) (spelling_lacks w))
     ∙ rw (before_end_at 41 argument) refl
 
+-- a content of three fields is read as these fields
 pub fields_again : {bytes t o l : List ℕ} → HasFields bytes t o l → fields_of bytes ≡ Ok (t, o, l)
 fields_again {t = t} {o = o} {l = l} h =
     rw h.is (rw (cut_at 124 t (o ++ 124 ∷ l) h.thread_bar)
@@ -76,6 +79,7 @@ content_short e h =
     let c = length-append e.thread (124 ∷ (operation e.word e.argument ++ 124 ∷ e.location)) in
     omega (arith, a, o, r, c, h.thread.field.short, h.argument.field.short, h.location.short)
 
+-- a content that has a named event is read as this event
 pub read_again : (bytes : List ℕ) (e : NamedEvent) → IsNamed bytes e → line_of bytes ≡ ok_named e
 unfolding line_of
 read_again bytes e h =

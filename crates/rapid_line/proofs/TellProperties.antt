@@ -67,7 +67,7 @@ before (suc w) b some few =
 
 -- ---- and a number without it
 
--- the others stay
+-- a number without its lowest bit keeps all its other bits
 pub others_kept : (b : ℕ) → 0 < b → b < 2 ^ 64 → (k : ℕ) → k ≢ trailing_zeros w64 b
     → bit_at (bit_and b (b - 1)) k ≡ bit_at b k
 others_kept b some few k other =
@@ -77,7 +77,7 @@ others_kept b some few k other =
       | inr le ↦ omega (arith, both, (before 64 b some few).above k (omega (arith, le, other)))
     ]
 
--- what is set then stands above it
+-- the bits of a number without its lowest bit stand above that bit
 pub others_later : (b : ℕ) → 0 < b → b < 2 ^ 64 → (k : ℕ) → bit_at (bit_and b (b - 1)) k ≡ 1
     → trailing_zeros w64 b < k
 others_later b some few k set =
@@ -90,7 +90,7 @@ others_later b some few k set =
     omega (arith, both, set, (bit_at-trailing_zeros w64 b some few).2 k lt) in
     omega (arith, apart, not_below)
 
--- and it is one bit fewer
+-- a number without its lowest bit has one bit fewer
 pub one_fewer : (w b : ℕ) → 0 < b → b < 2 ^ w → count_ones b ≡ count_ones (bit_and b (b - 1)) + 1
 one_fewer zero b some few = absurd (omega (arith, some, few))
 one_fewer (suc w) b some few =
@@ -110,7 +110,7 @@ one_fewer (suc w) b some few =
           omega (arith, ones_step b, ones_step rest, ap count_ones half, step, odd)
     ]
 
--- of one bit alone no other is set
+-- in a number of one bit no other bit is set
 pub only_one : (b : ℕ) → b < 2 ^ 64 → count_ones b ≡ 1 → (k : ℕ) → k ≢ trailing_zeros w64 b
     → bit_at b k ≡ 0
 only_one b few one k other =
@@ -162,7 +162,7 @@ compared seen text byte long =
           ∙ sym (equal_at seen text byte k long lt) ∙ there);
     }
 
--- and so do those of the first line
+-- the bits below the first LF tell where the byte stands in the first line
 pub told_in_line : (seen : ℕ) (text : List ℕ) (byte bits ends : ℕ) → byte ≢ 10 → ends ≢ 0 → ends < 2 ^ 64
     → Tell seen text 10 ends → Tell seen text byte bits
     → Tell (trailing_zeros w64 ends) text byte (bit_and bits (ends - 1))
