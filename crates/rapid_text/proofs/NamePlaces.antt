@@ -98,15 +98,16 @@ known_place t kind name n is =
 -- there are too many exactly where the name has no number
 pub too_many_exactly : (t u : Tables) (kind : Kind) (name : List ℕ) (r : Result ℕ NameFault)
     → IfOk r (λ n. number_in t kind name ≡ Some (n, u))
-    → (IsErrOf r TooMany → number_in t kind name ≡ None)
+    → (IsErrOf r TooMany → (space t kind).limit ≤ length (space t kind).names)
     → (IsErrOf r OutOfMemory → length (space t kind).names < (space t kind).limit)
     → OnErr r (found_number (space t kind) name ≡ None)
     → IsErrOf r TooMany ↔ (number_in t kind name ≡ None)
 too_many_exactly t u kind name (Ok n) ok full room new =
-    (full, λ none. let clash = sym ok ∙ none in absurd cc)
-too_many_exactly t u kind name (Err TooMany) ok full room new = (full, λ none. refl)
+    (λ is. absurd cc, λ none. let clash = sym ok ∙ none in absurd cc)
+too_many_exactly t u kind name (Err TooMany) ok full room new =
+    (λ is. lacks t kind name new (λ left. let most = full is in omega arith), λ none. refl)
 too_many_exactly t u kind name (Err OutOfMemory) ok full room new = (
-  full,
+  λ is. absurd cc,
   λ none. absurd (
       let some = fits t kind name (λ _. let left = room refl in omega (arith, left)) in
       let clash = subst (λ (o : Option (ℕ × Tables)). IsSome o) none some in cc),

@@ -1,15 +1,18 @@
 -- What entries hold stays right as names are added and put in.
-use Rattle.std.proofs.Common.{◌≡◌, ℕ, ◌<◌, ◌++◌, [], ◌∷◌, ◌⊎◌, List, Some}
+use Rattle.std.proofs.Common.{◌≡◌, ℕ, ◌<◌, ◌≤◌, ◌++◌, [], ◌∷◌, ◌⊎◌, List, Some, length}
 use Rattle.std.proofs.Common.{set, length-set, sym, ◌∙◌, ap, arith}
 use Rattle.std.specs.Prelude.{slice_get}
 use Rattle.std.proofs.lemmas.Bool.{cases_eq}
 use Rattle.std.proofs.lemmas.Grind.{get_or-set_at}
-use Rattle.std.proofs.lemmas.List.{get_or-set_other}
+use Rattle.std.proofs.lemmas.List.{get_or-set_other, length_push}
 use Rattle.std.proofs.lemmas.Option.{slice_get-get_or, slice_get_within, get_or_from_slice_get}
 use mathlib.Core.Logic.{inl, inr}
 use Rattle.rapid_text.specs.declared.number_cache.Entry.{Entry}
 use Rattle.rapid_text.specs.NumberCache.{HoldsNone, IsOneOf, IsEntryOf, IsFound, IsRight, AreRight}
+use Rattle.rapid_text.specs.Numbers.{number_of}
 use Rattle.rapid_text.proofs.NameWords.{same_name}
+use Rattle.rapid_text.proofs.NumberedProperties.{numbers}
+use Rattle.rapid_text.proofs.SpaceLaws.{names_in}
 use Rattle.event_core.proofs.Places.{get_before}
 
 -- an entry of the name with its number is right
@@ -54,6 +57,25 @@ pub right_more : (names : List (List ℕ)) (name : List ℕ) (entries : List Ent
 right_more names name entries right entry one some =
     let found = right entry one some in
     (found.0, get_before names (name ∷ []) entry.number found.0 found.1, found.2)
+
+-- what entries hold stays right as a name is numbered and its entry is put in
+pub right_numbered : (limit : ℕ) (names more : List (List ℕ)) (name : List ℕ) (i : ℕ) (old new : List Entry)
+    → length names < limit → number_of (names_in limit names) name ≡ Some (i, names_in limit more)
+    → AreRight names old
+    → ((entry : Entry) → IsOneOf new entry → IsOneOf old entry ⊎ IsEntryOf i name entry)
+    → (length more ≤ limit) × AreRight more new
+right_numbered limit names more name i old new less is right made =
+    let n = numbers (names_in limit names) name i (names_in limit more) is in
+    elim n.names [
+      | inl same ↦ (
+        omega (arith, less, ap (λ (xs : List (List ℕ)). length xs) same),
+        right_put more old new i name n.placed (rw same right) made,
+      )
+      | inr longer ↦ (
+        omega (arith, less, ap (λ (xs : List (List ℕ)). length xs) longer, length_push names name),
+        right_put more old new i name n.placed (rw longer (right_more names name old right)) made,
+      )
+    ]
 
 -- an entry that holds the name tells where it stands
 pub name_held : (names : List (List ℕ)) (entries : List Entry) (number : ℕ) (name : List ℕ)

@@ -1,43 +1,43 @@
 -- A set of names as the names with their numbers.
-use Rattle.std.proofs.Common.{◌≡◌, ℕ, ◌<◌, ◌≤◌, ◌++◌, [], ◌∷◌, List, Some, None, Option, length, get_or, true}
-use Rattle.std.proofs.Common.{false, cond, sym, ◌∙◌, ap, arith, refl}
-use Rattle.std.specs.Prelude.{nat_lt, slice_get}
+use Rattle.std.proofs.Common.{◌≡◌, ℕ, ◌<◌, ◌≤◌, ◌++◌, [], ◌∷◌, List, Some, length, get_or, true, false, cond}
+use Rattle.std.proofs.Common.{sym, ◌∙◌, arith, refl, inl, inr}
+use Rattle.std.specs.Prelude.{not, slice_get}
 use Rattle.std.specs.List.{IsDistinct, position, position_or_len, list_any}
 use Rattle.std.proofs.lemmas.Option.{slice_get_within, get_or_from_slice_get}
 use Rattle.std.proofs.lemmas.Slice.Eq.{bytes_eq-Decides}
 use Rattle.std.specs.Str.{bytes_eq}
-use Rattle.std.proofs.lemmas.Bool.{lt-ltb, false_from_ne_true, both_ways}
-use Rattle.std.proofs.lemmas.Bool.Decides.{nat_tests}
-use Rattle.std.proofs.lemmas.List.Folds.{list_any_none}
-use Rattle.std.proofs.lemmas.List.Sums.{fails_before_first, position_or_len_is}
+use Rattle.std.proofs.lemmas.Bool.{lt-ltb, le-ltb, cases_lt, false_from_ne_true, both_ways}
+use Rattle.std.proofs.lemmas.List.Folds.{list_any_at, list_any_none}
+use Rattle.std.proofs.lemmas.List.Sums.{fails_before_first, passes_at_first, position_or_len_is}
+use Rattle.std.proofs.lemmas.List.Sums.{prefix_len-le-length}
 use Rattle.std.proofs.lemmas.Map.Keys.{apart_from_distinct}
-use Rattle.rapid_text.specs.Numbers.{Numbered, found_or, number_of}
+use Rattle.rapid_text.specs.Numbers.{Numbered, number_of}
 
 abbrev pub names_in : ℕ → List (List ℕ) → Numbered
 names_in limit names = record { limit = limit; names = names }
 
--- a name that has no place is not among them
-pub absent_name : (names : List (List ℕ)) (name : List ℕ) → position (bytes_eq name) names ≡ None
-    → list_any (bytes_eq name) names ≡ false
-absent_name names name new =
-    let k = position_or_len (bytes_eq name) names in
-    let end : length names ≤ k = grind (arith, nat_tests, new) in
-    list_any_none (bytes_eq name) names (λ i d lt.
-    fails_before_first (bytes_eq name) names i d (omega (arith, lt, end)))
-
--- an insertion of a new name adds it at the end
-pub added : (names new : List (List ℕ)) (stored name : List ℕ) → stored ≡ name
-    → position (bytes_eq name) names ≡ None
-    → new ≡ cond (list_any (bytes_eq stored) names) names (names ++ stored ∷ []) → new ≡ names ++ name ∷ []
-added names new stored name same none is = grind (arith, nat_tests, absent_name names name none)
-
-pub numbered_new : (limit : ℕ) (names new : List (List ℕ)) (name : List ℕ)
-    → position (bytes_eq name) names ≡ None → length names < limit → new ≡ names ++ name ∷ []
-    → number_of (names_in limit names) name ≡ Some (length names, names_in limit new)
+-- a name that was put into the set has the number that numbering it gives
+pub inserted : (limit : ℕ) (names new : List (List ℕ)) (stored name : List ℕ) (i : ℕ) → stored ≡ name
+    → length names < limit → i ≡ position_or_len (bytes_eq stored) names
+    → new ≡ cond (list_any (bytes_eq stored) names) names (names ++ stored ∷ [])
+    → number_of (names_in limit names) name ≡ Some (i, names_in limit new)
 unfolding number_of
-numbered_new limit names new name e lt is =
-    let test : nat_lt (length names) limit ≡ true = lt-ltb (length names) limit lt in
-    ap (λ (o : Option ℕ). found_or o (names_in limit names) name) e ∙ (rw (test, is) refl)
+inserted limit names new stored name i same less place is =
+    let p = bytes_eq name in
+    let k = position_or_len p names in
+    elim (cases_lt k (length names)) [
+      | inl within ↦
+          let known : list_any p names ≡ true =
+          list_any_at p names k name within (passes_at_first p names name within) in
+          rw (is, place, same, lt-ltb k (length names) within, known) refl
+      | inr end ↦
+          let most : k ≤ length names = prefix_len-le-length (λ x. not (p x)) names in
+          let last : k ≡ length names = omega (arith, end, most) in
+          let new_here : list_any p names ≡ false =
+          list_any_none p names (λ j d lt. fails_before_first p names j d (omega (arith, lt, end))) in
+          rw (is, place, same, le-ltb k (length names) end, new_here, lt-ltb (length names) limit less, last)
+          refl
+    ]
 
 -- the place of a name among distinct names is where it stands
 pub place_of_name : (name : List ℕ) (xs : List (List ℕ)) (i : ℕ) → IsDistinct bytes_eq xs

@@ -7,7 +7,7 @@ ghost use Rattle.rapid_text.specs.Tables.{Tables, no_names, space, number_in, Is
 
 use crate::causes::{Kind, NameFault};
 use crate::interner::Interner;
-use event_core::{Limits, OutOfMemory};
+use event_core::Limits;
 use std::alloc::Global;
 use std::marker::Model;
 
@@ -76,8 +76,8 @@ impl Names {
         }
     }
 
-    // The number of a name that the cache may lack, in the space of its kind.
-    fn search(&mut self, kind: Kind, name: &[u8]) -> Option<u32>
+    /// The number of the name, if it has one.
+    pub(crate) fn find(&mut self, kind: Kind, name: &[u8]) -> Option<u32>
         ensures is { result ≡ found_number (space self.old kind) name.now }
         ensures same { self.new ≡ self.old }
     {
@@ -89,17 +89,6 @@ impl Names {
         }
     }
 
-    /// The number of the name, if it has one.
-    pub(crate) fn find(&mut self, kind: Kind, name: &[u8]) -> Option<u32>
-        ensures is { result ≡ found_number (space self.old kind) name.now }
-        ensures same { self.new ≡ self.old }
-    {
-        if let Some(number) = self.space(kind).find(name) {
-            return Some(number);
-        }
-        self.search(kind, name)
-    }
-
     /// Whether the limit of the kind allows for so many names more.
     pub(crate) fn allow(&self, kind: Kind, more: u32) -> bool
         ensures { IsTrue result ↔ (length (space self.now kind).names + more ≤ (space self.now kind).limit) }
@@ -107,43 +96,24 @@ impl Names {
         self.space(kind).allows(more)
     }
 
-    // Adds a new name, which gets the next number of its kind. An `Err` changes nothing.
-    #[tactic(auto, unfolding(crate::specs::Tables::number_in))]
-    fn add(&mut self, kind: Kind, name: &[u8]) -> Result<u32, OutOfMemory>
-        requires name { IsNameOf kind name.now }
-        requires new { found_number (space self.old kind) name.now ≡ None }
-        requires room { length (space self.old kind).names < (space self.old kind).limit }
-        ensures ok { IfOk result (λ n. number_in self.old kind name.now ≡ Some (n, self.new)) }
-        ensures err { OnErr result (self.new ≡ self.old) }
-    {
-        match kind {
-            Kind::Thread => self.threads.add(name),
-            Kind::Lock => self.locks.add(name),
-            Kind::Variable => self.variables.add(name),
-            Kind::Site => self.sites.add(name),
-        }
-    }
-
     // The number of a name that the cache may lack: the next one, where the name is new.
     #[inline(never)]
+    #[tactic(auto, unfolding(crate::specs::Tables::number_in))]
     fn search_or_add(&mut self, kind: Kind, name: &[u8]) -> Result<u32, NameFault>
         requires { IsNameOf kind name.now }
         ensures ok { IfOk result (λ n. number_in self.old kind name.now ≡ Some (n, self.new)) }
-        ensures too_many { IsErrOf result NameFault.TooMany → number_in self.old kind name.now ≡ None }
+        ensures too_many { IsErrOf result NameFault.TooMany →
+            (space self.old kind).limit ≤ length (space self.old kind).names }
         ensures room { IsErrOf result NameFault.OutOfMemory →
             length (space self.old kind).names < (space self.old kind).limit }
         ensures err { OnErr result (self.new ≡ self.old) }
         ensures new_only { OnErr result (found_number (space self.old kind) name.now ≡ None) }
     {
-        if let Some(number) = self.search(kind, name) {
-            return Ok(number);
-        }
-        if !self.allow(kind, 1) {
-            return Err(NameFault::TooMany);
-        }
-        match self.add(kind, name) {
-            Ok(number) => Ok(number),
-            Err(OutOfMemory) => Err(NameFault::OutOfMemory),
+        match kind {
+            Kind::Thread => self.threads.search_or_add(name),
+            Kind::Lock => self.locks.search_or_add(name),
+            Kind::Variable => self.variables.search_or_add(name),
+            Kind::Site => self.sites.search_or_add(name),
         }
     }
 

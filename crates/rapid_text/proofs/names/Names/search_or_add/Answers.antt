@@ -1,18 +1,25 @@
-use Rattle.std.proofs.Common.{◌+◌, ◌≤◌, ℕ, Option, Some, length, sym, ap, subst, ◌∙◌}
-use Rattle.std.proofs.lemmas.Bool.{both_ways}
-use Rattle.rapid_text.specs.Tables.{Tables, space}
-use Rattle.rapid_text.proofs.NamePlaces.{known_place, lacks}
+use Rattle.rapid_text.proofs.NumberedProperties.{named_after}
 use Rattle.rapid_text.proofs.names.Names.search_or_add.Goals as goal
 
-pub returns-in-Some-clause-ok : goal.returns-in-Some-clause-ok
-returns-in-Some-clause-ok c =
-    let number = c.in-Some.number in
-    known_place c.args.self.now c.args.kind c.args.name.now number (sym c.in-Some.is ∙ c.search.ensures.is)
-    ∙ ap (λ (t : Tables). let o : Option (ℕ × Tables) = Some (number, t) in o) (sym c.search.ensures.same)
+pub invariant_of-self : goal.invariant_of-self
+invariant_of-self c =
+    named_after _ c.in-Thread.is c.args.name.now c.search_or_add.result c.search_or_add.new.self
+    c.self.invariant c.search_or_add.ensures.ok c.search_or_add.ensures.err c.requires
 
-pub returns-then-not-allow-clause-too_many : goal.returns-then-not-allow-clause-too_many
-returns-then-not-allow-clause-too_many c = λ _.
-    lacks c.args.self.now c.args.kind c.args.name.now (sym c.search.ensures.is ∙ c.in_default.is)
-    (λ left. both_ways c.allow.result c.if-not-allow.true (c.allow.ensures.1
-    (subst (λ (t : Tables). length (space t c.args.kind).names + 1 ≤ (space t c.args.kind).limit)
-    (sym c.search.ensures.same) left)))
+pub invariant_of-self-in-Lock : goal.invariant_of-self-in-Lock
+invariant_of-self-in-Lock c =
+    named_after _ c.in-Lock.is c.args.name.now c.search_or_add-in-Lock.result
+    c.search_or_add-in-Lock.new.self c.self.invariant c.search_or_add-in-Lock.ensures.ok
+    c.search_or_add-in-Lock.ensures.err c.requires
+
+pub invariant_of-self-in-Variable : goal.invariant_of-self-in-Variable
+invariant_of-self-in-Variable c =
+    named_after _ c.in-Variable.is c.args.name.now c.search_or_add-in-Variable.result
+    c.search_or_add-in-Variable.new.self c.self.invariant c.search_or_add-in-Variable.ensures.ok
+    c.search_or_add-in-Variable.ensures.err c.requires
+
+pub invariant_of-self-in-Site : goal.invariant_of-self-in-Site
+invariant_of-self-in-Site c =
+    named_after _ c.in-Site.is c.args.name.now c.search_or_add-in-Site.result
+    c.search_or_add-in-Site.new.self c.self.invariant c.search_or_add-in-Site.ensures.ok
+    c.search_or_add-in-Site.ensures.err c.requires
