@@ -5,6 +5,9 @@ pub mod NumberCacheProperties
 pub mod ContentProperties
 pub mod LongLines
 pub mod TakingProperties
+pub mod FoldsProperties
+pub mod TakesProperties
+pub mod FedProperties
 pub mod PushesProperties
 pub mod WindowLaws
 pub mod Outputs
@@ -16,5 +19,4 @@ pub mod NamePlaces
 pub mod NewNames
 pub mod PushedProperties
 pub mod BeginsAtProperties
-pub mod PulledProperties
 pub mod TurnsProperties

@@ -1,15 +1,12 @@
--- What the steps of a cutter take of a text, and where a text stands that was not read to its end.
+-- How far the steps of a cutter take a text, and where a text stands that was not read to its end.
 use Rattle.std.proofs.Common.{◌≡◌, ℕ, ◌+◌, ◌≤◌, List, [], ◌∷◌, ◌++◌, length, length-append, Option}
-use Rattle.std.proofs.Common.{refl, sym, ap, subst, ◌∙◌, append_assoc, append-nil, arith, take, drop}
-use Rattle.std.proofs.lemmas.List.{length-take-le, take-append-drop}
+use Rattle.std.proofs.Common.{refl, sym, ap, subst, ◌∙◌, append_assoc, append-nil, arith}
 use Rattle.std.specs.Io.KnownBytes.{Consumes}
 use Rattle.rapid_line.specs.Cut.{Lacks, count, after_last}
 use Rattle.rapid_line.specs.Lines.{Lines, Cuts, Keeps}
 use Rattle.rapid_line.proofs.CutProperties.{after_last-append, after_last-end, after_last-Lacks, count-append}
 use Rattle.rapid_line.proofs.CutProperties.{count-Lacks, IsCut-at}
-use Rattle.event_core.specs.declared.events.Event.{Event}
-use Rattle.rapid_text.specs.Cutting.{Cutting, Pushes}
-use Rattle.rapid_text.specs.Taking.{Place, lines_place, cutter_place, start, AreUnended, Advances, Truncates}
+use Rattle.rapid_text.specs.Taking.{Place, lines_place, start, AreUnended, Advances, Truncates}
 
 -- all these bytes were taken: each LF ended a line, and what follows the last one is kept
 pub record Took (old : Place) (bytes : List ℕ) (new : Place) : Type 0 where
@@ -82,15 +79,33 @@ keeps_advance s t piece k few =
     subst (λ (b : List ℕ). Advances (lines_place s) b [] (lines_place t)) (append-nil piece)
     (took_advances [] (keeps_took k few.0) few)
 
--- a push
-pub push_advances : (s t : Cutting) (piece : List ℕ) (used : ℕ) (o : Option Event) → Pushes s t piece used o
-    → AreUnended t.kept → Advances (cutter_place s) piece (drop used piece) (cutter_place t)
-push_advances s t piece used o p few =
-    let long = length-take-le used piece p.used_within in
-    let took : Took (cutter_place s) (take used piece) (cutter_place t) =
-    record { lines = p.lines; kept = p.kept; taken = omega (arith, p.taken, long) } in
-    subst (λ (b : List ℕ). Advances (cutter_place s) b (drop used piece) (cutter_place t))
-    (take-append-drop used piece) (took_advances (drop used piece) took few)
+-- ---- pieces, one after another
+
+pub advances_none : (p : Place) (bytes : List ℕ) → Advances p bytes bytes p
+advances_none p bytes = record { lines = refl; kept = refl; unended = λ h. h; taken = refl }
+
+pub advances_more : (p q r : Place) (bytes rest left : List ℕ) → Advances p bytes rest q
+    → Advances q rest left r → Advances p bytes left r
+advances_more p q r bytes rest left h k = record {
+  lines = k.lines ∙ h.lines;
+  kept = k.kept ∙ h.kept;
+  unended = λ u. k.unended (h.unended u);
+  taken = k.taken ∙ h.taken;
+}
+
+-- what was not taken yet changes nothing
+pub advances_before : (p q : Place) (front rest : List ℕ) → Advances p front [] q
+    → Advances p (front ++ rest) rest q
+advances_before p q front rest h = record {
+  lines = let both = count-append 10 front rest in omega (arith, h.lines, both);
+  kept = after_last-append 10 q.kept rest
+      ∙ ap (λ (t : List ℕ). after_last 10 (after_last 10 t ++ rest)) (sym (append-nil q.kept))
+      ∙ ap (λ (t : List ℕ). after_last 10 (t ++ rest)) h.kept
+      ∙ sym (after_last-append 10 (p.kept ++ front) rest)
+      ∙ ap (λ (t : List ℕ). after_last 10 t) (append_assoc p.kept front rest);
+  unended = h.unended;
+  taken = let both = length-append front rest in omega (arith, h.taken, both);
+}
 
 -- a text of which these bytes came and were taken, where the reading stopped
 pub truncates : (left rest : Option (List ℕ)) (Why : List ℕ → Type 0) (now : Place) (So : List ℕ → Type 0)

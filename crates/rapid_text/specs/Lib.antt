@@ -14,4 +14,4 @@ pub mod Reading
 pub mod Turns
 pub mod Feeding
 pub mod Taking
-pub mod TakingLaws
+pub mod Folds
