@@ -32,10 +32,8 @@ impl<'m, N: Name> TracedThread<'m, N> {
         let monitor = self.monitor;
         let (pass, forked) = monitor.fork(rt, take(&mut self.pass), child, site);
         self.pass = Some(pass);
-        match forked {
-            Ok((born, reply)) => Ok((TracedThread::new(monitor, born), reply)),
-            Err(refusal) => Err(refusal),
-        }
+        let (born, reply) = forked?;
+        Ok((TracedThread::new(monitor, born), reply))
     }
 
     /// Joins the child, whose handle is spent: what this one has seen begins with what the child's had, and

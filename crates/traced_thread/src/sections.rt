@@ -99,10 +99,8 @@ impl<'h, 'm, N: Name, R: Wait> Section<'h, 'm, N, R> {
         ensures begun { IfOk result (HasBegun N.limits lock site (pass_of self.old)) }
         ensures declined { IfErr result (WasRefused N.limits lock site (pass_of self.old)) }
     {
-        match self.thread.acquire(self.rt, lock, site) {
-            Ok(_) => Ok(Section::new(self.rt, self.thread, lock, site)),
-            Err(refusal) => Err(refusal),
-        }
+        self.thread.acquire(self.rt, lock, site)?;
+        Ok(Section::new(self.rt, self.thread, lock, site))
     }
 
     /// Begins a section within this one, and tries again while another thread holds the lock and tries are
@@ -117,10 +115,8 @@ impl<'h, 'm, N: Name, R: Wait> Section<'h, 'm, N, R> {
         ensures declined { IfErr result (WasRefused N.limits lock site (pass_of self.old)) }
         ensures tries { CountsTries tries.old tries.new result }
     {
-        match self.thread.acquire_within(self.rt, lock, site, tries) {
-            Ok(_) => Ok(Section::new(self.rt, self.thread, lock, site)),
-            Err(refusal) => Err(refusal),
-        }
+        self.thread.acquire_within(self.rt, lock, site, tries)?;
+        Ok(Section::new(self.rt, self.thread, lock, site))
     }
 }
 
@@ -138,10 +134,8 @@ impl<'m, N: Name> TracedThread<'m, N> {
         ensures begun { IfOk result (HasBegun N.limits lock site self.old) }
         ensures declined { IfErr result (WasRefused N.limits lock site self.old) }
     {
-        match self.acquire(rt, lock, site) {
-            Ok(_) => Ok(Section::new(rt, self, lock, site)),
-            Err(refusal) => Err(refusal),
-        }
+        self.acquire(rt, lock, site)?;
+        Ok(Section::new(rt, self, lock, site))
     }
 
     /// Begins a section, and tries again while another thread holds the lock and tries are left. `Held` is
@@ -158,9 +152,7 @@ impl<'m, N: Name> TracedThread<'m, N> {
         ensures declined { IfErr result (WasRefused N.limits lock site self.old) }
         ensures tries { CountsTries tries.old tries.new result }
     {
-        match self.acquire_within(rt, lock, site, tries) {
-            Ok(_) => Ok(Section::new(rt, self, lock, site)),
-            Err(refusal) => Err(refusal),
-        }
+        self.acquire_within(rt, lock, site, tries)?;
+        Ok(Section::new(rt, self, lock, site))
     }
 }
