@@ -40,54 +40,42 @@ no_events m p memory memory_limits clocks none width clock_limits = record {
   clock_limits = clock_limits;
 }
 
--- the memory after the next event of the log
-pub record IsNext (log : List Event) (e : Event) (m : MemoryTables) : Type 0 where
-  pub stands : MemoryStandsFor (log ++ e ∷ []) m
-  pub limits : m.limits ≡ small
-
--- a memory that permits a call performs it
-pub next_event : (old new : MemoryTables) (p : Parts) (e : Event) (r : StandForOneLog old p)
+-- an event that the memory permits after its log is legal there
+pub next_legal : (old new : MemoryTables) (p : Parts) (e : Event) (r : StandForOneLog old p)
     → ((log : List Event) → MemoryStandsFor log old → MemoryStandsFor (log ++ e ∷ []) new)
-    → new.limits ≡ old.limits → IsNext r.log e new
-next_event old new p e r performed same = record {
-  stands = performed r.log r.memory;
-  limits = same ∙ r.memory_limits;
-}
-
--- its event is legal
-legal : (log : List Event) (e : Event) (m : MemoryTables) → IsNext log e m → WellFormed small (log ++ e ∷ [])
-legal log e m next = subst (λ (k : Limits). WellFormed k (log ++ e ∷ [])) next.limits next.stands.well_formed
+    → new.limits ≡ old.limits → WellFormed small (r.log ++ e ∷ [])
+next_legal old new p e r performed same =
+    subst (λ (k : Limits). WellFormed k (r.log ++ e ∷ [])) (same ∙ r.memory_limits)
+    ((performed r.log r.memory).well_formed)
 
 -- room can be made for it in the clocks
-pub next_within : (old new : MemoryTables) (p : Parts) (e : Event) (r : StandForOneLog old p)
-    → IsNext r.log e new → IsWithin p e.thread e.op
-next_within old new p e r next =
-    within_where_legal small r.log e p (legal r.log e new next) r.width r.clock_limits
+pub next_within : (m : MemoryTables) (p : Parts) (e : Event) (r : StandForOneLog m p)
+    → WellFormed small (r.log ++ e ∷ []) → IsWithin p e.thread e.op
+next_within m p e r legal = within_where_legal small r.log e p legal r.width r.clock_limits
 
 -- the clocks can take it, once there is room
-pub next_fits : (old new : MemoryTables) (p q : Parts) (e : Event) (r : StandForOneLog old p)
-    → IsNext r.log e new → SameNumbers p q → Fits e q
-next_fits old new p q e r next same =
-    let is_legal = legal r.log e new next in
+pub next_fits : (m : MemoryTables) (p q : Parts) (e : Event) (r : StandForOneLog m p)
+    → WellFormed small (r.log ++ e ∷ []) → SameNumbers p q → Fits e q
+next_fits m p q e r legal same =
     let stands = same_stand r.log p q same r.clocks in
-    fits_where_legal small r.log e q bounded is_legal stands
-    (little_work small r.log e q bounded is_legal stands (same_work small r.log p q same r.work))
+    fits_where_legal small r.log e q bounded legal stands
+    (little_work small r.log e q bounded legal stands (same_work small r.log p q same r.work))
 
 -- and then both stand for the longer log
 pub stand_after : (old new : MemoryTables) (p q after : Parts) (e : Event) (r : StandForOneLog old p)
-    → IsNext r.log e new → SameNumbers p q → SameLimits p q
+    → WellFormed small (r.log ++ e ∷ []) → MemoryStandsFor (r.log ++ e ∷ []) new → new.limits ≡ old.limits
+    → SameNumbers p q → SameLimits p q
     → ((m : Limits) (log : List Event) → WellFormed m (log ++ e ∷ []) → StandsFor log q
     → StandsFor (log ++ e ∷ []) after)
     → IsWorkOf e q after → SameLimits q after → StandForOneLog new after
-stand_after old new p q after e r next same room stands work kept =
-    let is_legal = legal r.log e new next in
+stand_after old new p q after e r legal memory limits same room stands work kept =
     let prepared = same_stand r.log p q same r.clocks in
     record {
       log = r.log ++ e ∷ [];
-      memory = next.stands;
-      memory_limits = next.limits;
-      clocks = stands small r.log is_legal prepared;
-      work = work_step small r.log e q after is_legal prepared (same_work small r.log p q same r.work) work;
+      memory = memory;
+      memory_limits = limits ∙ r.memory_limits;
+      clocks = stands small r.log legal prepared;
+      work = work_step small r.log e q after legal prepared (same_work small r.log p q same r.work) work;
       width = kept.width ∙ (room.width ∙ r.width);
       clock_limits = kept.limits ∙ (room.limits ∙ r.clock_limits);
     }

@@ -9,48 +9,36 @@ use event_core::{Event, Limits, Op, Roots, Verdict};
 use hb_clocks::{Clock, JoinedClocks};
 use std::alloc::Global;
 use std::process::Abort;
+use test_doubles::rows;
 use test_logs::{ACCESS_BEFORE_CONFLICT, T0, T1, THREE_STORES, X, call_at, count_lines};
 
-/// A log by three threads, and the verdicts on its events.
-struct Case {
-    text: &'static str,
-    /// Of each event, how many events of another log's thread 0 are ordered before it.
-    counts: &'static [u32],
-    /// The indices of events that race, and of the earlier ones that they race with.
-    races: &'static [(usize, u64)],
+/// What a case shows, a log by three threads, of each event how many events of another log's thread 0 are
+/// ordered before it, and the indices of events that race, with those of the earlier ones that they race with.
+type Case = (
+    &'static str,
+    &'static str,
+    &'static [u32],
+    &'static [(usize, u64)],
+);
+
+const CASES: &[Case] = rows! {
+    "the greatest racing index is named", THREE_STORES, &[2, 2, 2, 2, 2], &[(3, 2), (4, 3)];
+    "what is ordered before the access does not race",
+        ACCESS_BEFORE_CONFLICT, &[1, 1, 1, 1, 1, 1, 1, 5, 5], &[(6, 1)];
+    "loads do not conflict with loads",
+        "T0|r(x)|1\nT1|r(x)|2\nT2|w(x)|3\nT0|r(x)|4\n", &[0, 0, 0, 0], &[(2, 1), (3, 2)];
+    // The last store races, and so it forgets nothing.
+    "a store without a race stands for what was before it",
+        "T0|r(x)|1\nT1|w(x)|2\nT0|w(x)|3\nT2|r(x)|4\nT2|w(x)|5\n",
+        &[0, 1, 0, 0, 2], &[(2, 1), (3, 2), (4, 1)];
+    "accesses of one thread, or of different variables, do not conflict",
+        "T1|w(x)|1\nT1|r(x)|2\nT1|w(x)|3\nT2|w(y)|4\n", &[0, 0, 0, 0], &[];
+};
+
+// A test that names the table itself is proved over each of its bytes.
+fn cases() -> &'static [Case] {
+    CASES
 }
-
-const STORES: Case = Case {
-    text: THREE_STORES,
-    counts: &[2, 2, 2, 2, 2],
-    races: &[(3, 2), (4, 3)],
-};
-
-const ORDERED: Case = Case {
-    text: ACCESS_BEFORE_CONFLICT,
-    counts: &[1, 1, 1, 1, 1, 1, 1, 5, 5],
-    races: &[(6, 1)],
-};
-
-const LOADS: Case = Case {
-    text: "T0|r(x)|1\nT1|r(x)|2\nT2|w(x)|3\nT0|r(x)|4\n",
-    counts: &[0, 0, 0, 0],
-    races: &[(2, 1), (3, 2)],
-};
-
-// The last store races, and so it forgets nothing.
-const STORE_WITHOUT_A_RACE: Case = Case {
-    text: "T0|r(x)|1\nT1|w(x)|2\nT0|w(x)|3\nT2|r(x)|4\nT2|w(x)|5\n",
-    counts: &[0, 1, 0, 0, 2],
-    races: &[(2, 1), (3, 2), (4, 1)],
-};
-
-// Nor do accesses of different variables conflict.
-const ONE_THREAD: Case = Case {
-    text: "T1|w(x)|1\nT1|r(x)|2\nT1|w(x)|3\nT2|w(y)|4\n",
-    counts: &[0, 0, 0, 0],
-    races: &[],
-};
 
 /// The accesses of a log of so many events by three threads.
 #[derive(Drop)]
@@ -103,8 +91,8 @@ fn clocks_of(rt: &impl Abort, alloc: Global, count: u32) -> Run {
     run
 }
 
-fn verdict_on(case: &Case, index: usize) -> Verdict {
-    for (event, with) in case.races {
+fn verdict_on(races: &[(usize, u64)], index: usize) -> Verdict {
+    for (event, with) in races {
         if *event == index {
             return Verdict::Racy(*with);
         }
@@ -112,42 +100,21 @@ fn verdict_on(case: &Case, index: usize) -> Verdict {
     Verdict::Clear
 }
 
-fn expect_verdicts(rt: &impl Abort, alloc: Global, case: &Case) {
-    let mut log = Log::new(rt, alloc);
-    expect(rt, &"events", count_lines(case.text), case.counts.len());
-    for (index, count) in case.counts.iter().enumerate() {
-        let call = call_at(case.text, index).expect(rt, "an event");
-        let run = clocks_of(rt, alloc, *count);
-        let verdicts = log.step(rt, &call.event_with(0), run.clocks.po(T0));
-        expect(rt, &index, verdicts, [verdict_on(case, index); 2]);
-        drop(run);
+#[test]
+fn each_access_has_its_verdict(rt: HostRuntime) {
+    for (name, text, counts, races) in cases() {
+        let mut log = Log::new(&rt, rt.alloc());
+        expect(&rt, name, count_lines(text), counts.len());
+        for (index, count) in counts.iter().enumerate() {
+            let call = call_at(text, index).expect(&rt, *name);
+            let run = clocks_of(&rt, rt.alloc(), *count);
+            let verdicts = log.step(&rt, &call.event_with(0), run.clocks.po(T0));
+            let wanted = [verdict_on(races, index); 2];
+            expect(&rt, &(*name, index), verdicts, wanted);
+            drop(run);
+        }
+        drop(log);
     }
-    drop(log);
-}
-
-#[test]
-fn the_greatest_racing_index_is_named(rt: HostRuntime) {
-    expect_verdicts(&rt, rt.alloc(), &STORES);
-}
-
-#[test]
-fn what_is_ordered_before_the_access_does_not_race(rt: HostRuntime) {
-    expect_verdicts(&rt, rt.alloc(), &ORDERED);
-}
-
-#[test]
-fn loads_do_not_conflict_with_loads(rt: HostRuntime) {
-    expect_verdicts(&rt, rt.alloc(), &LOADS);
-}
-
-#[test]
-fn a_store_without_a_race_stands_for_what_was_before_it(rt: HostRuntime) {
-    expect_verdicts(&rt, rt.alloc(), &STORE_WITHOUT_A_RACE);
-}
-
-#[test]
-fn accesses_of_one_thread_do_not_conflict(rt: HostRuntime) {
-    expect_verdicts(&rt, rt.alloc(), &ONE_THREAD);
 }
 
 #[test]

@@ -1,19 +1,17 @@
-//! Worked logs with the numbers of their clocks.
+//! The clocks of worked logs.
 ghost use Rattle.std.specs.Prelude.{◌≡◌, ℕ, ◌<◌, ◌≤◌, ◌↔◌, length, IsTrue};
 ghost use Rattle.hb_clocks.specs.Counts.{counts_of};
 ghost use Rattle.hb_clocks.specs.Released.{before_of};
 ghost use Rattle.hb_clocks.specs.Standing.{IsAtMost};
 ghost use Rattle.hb_clocks.specs.Tables.{state_of, IsWithin};
 
-mod cases;
-
+use crate::cases::Row;
 use crate::expected::expect;
-use cases::{Case, GREATER, IDLE, INNER, MARKED, NESTED, READ_AS_ONE, Row};
 use event_core::{Event, Limits, Op, Roots, ThreadId};
 use hb_clocks::{Clock, HbClocks, JoinedClocks, Mark, ReleaseClock, Work};
 use std::alloc::Global;
 use std::process::Abort;
-use test_logs::{T0, T1, T2, call, call_at};
+use test_logs::{T0, T1, T2, call};
 
 /// The clocks of three threads after some events, and one beside them.
 #[derive(Drop)]
@@ -47,10 +45,18 @@ fn is_within(event: &Event) -> bool
         }
 }
 
-fn expect_numbers(rt: &impl Abort, at: usize, clock: &Clock, wanted: &[u64; 3])
+// The case and the row that is looked at.
+pub type Place = (&'static str, usize);
+
+fn expect_numbers(rt: &impl Abort, place: Place, clock: &Clock, wanted: &[u64; 3])
     requires { length clock.now ≡ 3 }
 {
-    expect(rt, &at, [clock.at(T0), clock.at(T1), clock.at(T2)], *wanted);
+    expect(
+        rt,
+        &place,
+        [clock.at(T0), clock.at(T1), clock.at(T2)],
+        *wanted,
+    );
 }
 
 // A count for one call, which has no work yet.
@@ -119,18 +125,13 @@ impl Run {
         clock
     }
 
-    fn expect_counts(&self, rt: &impl Abort, at: usize, thread: ThreadId, wanted: &[bool; 2]) {
+    fn expect_counts(&self, rt: &impl Abort, place: Place, thread: ThreadId, wanted: &[bool; 2]) {
         let mark = self.marked.expect(rt, "a mark is kept");
         assert!(rt; mark.thread().0 < 3);
         let mut work = no_work(rt, self.alloc);
         let by_po = mark.counted(self.clocks.po(thread), &mut work);
         let by_hb = mark.counted(self.clocks.hb(thread), &mut work);
-        expect(rt, &at, [by_po, by_hb], *wanted);
-    }
-
-    // The clock beside the others takes the numbers of the thread's clock of program order.
-    pub fn copy(&mut self, thread: ThreadId) {
-        self.beside.copy_from(self.clocks.po(thread));
+        expect(rt, &place, [by_po, by_hb], *wanted);
     }
 
     fn join(&mut self, rt: &impl Abort, thread: ThreadId) {
@@ -138,16 +139,12 @@ impl Run {
         self.beside.join(self.clocks.hb(thread), &mut work);
     }
 
-    // It takes the greater numbers of the release.
+    // The clock beside the others takes the greater numbers of the release.
     pub fn join_release(&mut self, rt: &impl Abort, release: &ReleaseClock)
         requires { length (before_of release.now) ≤ 3 }
     {
         let mut work = no_work(rt, self.alloc);
         self.beside.join_release(release, &mut work);
-    }
-
-    pub fn expect_beside(&self, rt: &impl Abort, at: usize, wanted: &[u64; 3]) {
-        expect_numbers(rt, at, &self.beside, wanted);
     }
 
     // The numbers of both threads' clocks of program order, read as one.
@@ -156,69 +153,26 @@ impl Run {
         [joined.at(T0), joined.at(T1), joined.at(T2)]
     }
 
-    fn follow(&mut self, rt: &impl Abort, at: usize, row: &Row) {
+    // Does what the row says of clocks.
+    pub fn follow(&mut self, rt: &impl Abort, place: Place, row: &Row) {
         match row {
-            Row::Po(thread, wanted) => expect_numbers(rt, at, self.clocks.po(*thread), wanted),
-            Row::Hb(thread, wanted) => expect_numbers(rt, at, self.clocks.hb(*thread), wanted),
+            Row::Po(thread, wanted) => expect_numbers(rt, place, self.clocks.po(*thread), wanted),
+            Row::Hb(thread, wanted) => expect_numbers(rt, place, self.clocks.hb(*thread), wanted),
             Row::Depth(thread, lock, wanted) => {
-                expect(rt, &at, self.clocks.depth(*thread, *lock), *wanted);
+                expect(rt, &place, self.clocks.depth(*thread, *lock), *wanted);
             }
             Row::Admits(thread, op, wanted) => {
-                expect(rt, &at, self.clocks.admits(*thread, *op), *wanted);
+                expect(rt, &place, self.clocks.admits(*thread, *op), *wanted);
             }
             Row::Mark(thread) => self.marked = Some(self.latest(rt, *thread)),
-            Row::Counts(thread, wanted) => self.expect_counts(rt, at, *thread, wanted),
-            Row::Copy(thread) => self.copy(*thread),
+            Row::Counts(thread, wanted) => self.expect_counts(rt, place, *thread, wanted),
+            Row::Copy(thread) => self.beside.copy_from(self.clocks.po(*thread)),
             Row::Join(thread) => self.join(rt, *thread),
-            Row::Clock(wanted) => self.expect_beside(rt, at, wanted),
+            Row::Clock(wanted) => expect_numbers(rt, place, &self.beside, wanted),
             Row::Joined(first, second, wanted) => {
-                expect(rt, &at, self.joined(*first, *second), *wanted);
+                expect(rt, &place, self.joined(*first, *second), *wanted);
             }
+            _ => {}
         }
     }
-}
-
-fn follow_all(rt: &impl Abort, alloc: Global, case: &Case) {
-    let (text, rows) = *case;
-    let mut run = Run::new(rt, alloc);
-    let mut taken = 0;
-    for (at, (events, row)) in rows.iter().enumerate() {
-        for index in taken..*events {
-            let call = call_at(text, index).expect(rt, "an event");
-            run.take(rt, &call.event_with(0));
-        }
-        taken = *events;
-        run.follow(rt, at, row);
-    }
-    drop(run);
-}
-
-#[test]
-fn nested_sections_hand_on_their_numbers(rt: HostRuntime) {
-    follow_all(&rt, rt.alloc(), &NESTED);
-}
-
-#[test]
-fn the_fork_of_an_empty_child_is_below_its_join(rt: HostRuntime) {
-    follow_all(&rt, rt.alloc(), &IDLE);
-}
-
-#[test]
-fn the_outer_release_alone_hands_on(rt: HostRuntime) {
-    follow_all(&rt, rt.alloc(), &INNER);
-}
-
-#[test]
-fn a_mark_is_counted_from_its_event_on(rt: HostRuntime) {
-    follow_all(&rt, rt.alloc(), &MARKED);
-}
-
-#[test]
-fn clocks_take_the_greater_numbers(rt: HostRuntime) {
-    follow_all(&rt, rt.alloc(), &GREATER);
-}
-
-#[test]
-fn two_clocks_are_read_as_their_join(rt: HostRuntime) {
-    follow_all(&rt, rt.alloc(), &READ_AS_ONE);
 }

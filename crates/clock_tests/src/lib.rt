@@ -10,13 +10,13 @@
 #[cfg(test)]
 mod accesses;
 #[cfg(test)]
+mod cases;
+#[cfg(test)]
 mod clocks;
 #[cfg(test)]
 mod expected;
 #[cfg(test)]
 mod logs;
-#[cfg(test)]
-mod made;
 #[cfg(test)]
 mod queues;
 #[cfg(test)]

@@ -5,17 +5,15 @@ ghost use Rattle.std.specs.Prelude.{◌≡◌, ℕ, ◌<◌, ◌≤◌, length};
 ghost use Rattle.hb_clocks.specs.Counts.{counts_of};
 ghost use Rattle.lock_queues.specs.Queues.{closed_of, found_of, SameMeaning};
 
-mod cases;
-
-use crate::clocks::{Run, event, no_work, numbers_of};
+use crate::cases::{Case, Row, cases};
+use crate::clocks::{Place, Run, no_work, numbers_of};
 use crate::expected::expect;
-use cases::{ONE_SECTION, RELEASES, Row, THREE_THREADS, TWO_THREADS};
-use event_core::{Limits, LockId, Op, Roots, ThreadId};
+use event_core::{Event, Limits, LockId, Roots, ThreadId};
 use hb_clocks::{Clock, HbClocks, Mark, Work};
 use lock_queues::Queues;
 use std::alloc::Global;
 use std::process::Abort;
-use test_logs::{L, T0, T1, X};
+use test_logs::{L, T0, T1, call_at};
 
 /// The sections of three threads on two locks, and the clocks of those threads.
 #[derive(Drop)]
@@ -98,6 +96,10 @@ impl Sections {
         }
     }
 
+    fn take(&mut self, rt: &impl Abort, event: &Event) {
+        self.run.take(rt, event);
+    }
+
     fn make_room(&mut self, rt: &impl Abort, thread: ThreadId, lock: LockId) {
         assert!(rt; self.queues.make_room(thread, lock).is_ok(), "memory");
     }
@@ -112,7 +114,7 @@ impl Sections {
     fn expect_section(
         &self,
         rt: &impl Abort,
-        at: usize,
+        place: Place,
         lock: LockId,
         number: u32,
         wanted: (ThreadId, [u64; 3]),
@@ -121,7 +123,7 @@ impl Sections {
         assert!(rt; number <= self.queues.count(lock));
         let section = self.queues.section(lock, number);
         let found = (section.by(), numbers_of(rt, self.alloc, &section));
-        expect(rt, &at, found, wanted);
+        expect(rt, &place, found, wanted);
     }
 
     fn join_release(&mut self, rt: &impl Abort, lock: LockId, number: u32) {
@@ -151,51 +153,48 @@ impl Sections {
         find(rt, alloc, &mut queues, thread, lock, mark, clock, &mut work)
     }
 
-    fn follow(&mut self, rt: &impl Abort, at: usize, row: &Row) {
+    fn follow(&mut self, rt: &impl Abort, place: Place, row: &Row) {
         match row {
-            Row::Take(thread, events) => {
-                for _event in 0..*events {
-                    self.run.take(rt, &event(*thread, Op::Load(X)));
-                }
-            }
-            Row::Fork(thread, child) => self.run.take(rt, &event(*thread, Op::Fork(*child))),
             Row::Close(thread, lock) => self.close(rt, *thread, *lock),
-            Row::Count(lock, wanted) => expect(rt, &at, self.queues.count(*lock), *wanted),
+            Row::Count(lock, wanted) => expect(rt, &place, self.queues.count(*lock), *wanted),
             Row::Section(lock, number, by, wanted) => {
-                self.expect_section(rt, at, *lock, *number, (*by, *wanted));
+                self.expect_section(rt, place, *lock, *number, (*by, *wanted));
             }
-            Row::Copy(thread) => self.run.copy(*thread),
             Row::JoinRelease(lock, number) => self.join_release(rt, *lock, *number),
-            Row::Clock(wanted) => self.run.expect_beside(rt, at, wanted),
+            _ => self.run.follow(rt, place, row),
         }
     }
 }
 
-fn follow_all(rt: &impl Abort, alloc: Global, rows: &[Row]) -> Sections {
+fn follow_all(rt: &impl Abort, alloc: Global, case: &Case) -> Sections {
+    let (name, text, rows) = *case;
     let mut sections = Sections::new(rt, alloc);
-    for (at, row) in rows.iter().enumerate() {
-        sections.follow(rt, at, row);
+    let mut taken = 0;
+    for (at, (events, row)) in rows.iter().enumerate() {
+        for index in taken..*events {
+            let call = call_at(text, index).expect(rt, name);
+            sections.take(rt, &call.event_with(0));
+        }
+        taken = *events;
+        sections.follow(rt, (name, at), row);
     }
     sections
 }
 
 #[test]
-fn a_release_is_one_more_than_the_numbers_before_it(rt: HostRuntime) {
-    drop(follow_all(&rt, rt.alloc(), RELEASES));
-}
-
-#[test]
-fn releases_of_two_threads_are_joined_into_the_clock_of_a_third(rt: HostRuntime) {
-    drop(follow_all(&rt, rt.alloc(), THREE_THREADS));
+fn each_log_has_the_numbers_of_its_clocks_and_sections(rt: HostRuntime) {
+    for case in cases() {
+        drop(follow_all(&rt, rt.alloc(), case));
+    }
 }
 
 #[test]
 fn another_thread_finds_the_section(rt: HostRuntime) {
-    let sections = follow_all(&rt, rt.alloc(), TWO_THREADS);
+    let closed: Case = (
+        "a closed section",
+        "T0|r(x)|1\nT1|r(x)|2\n",
+        &[(2, Row::Close(T0, L))],
+    );
+    let sections = follow_all(&rt, rt.alloc(), &closed);
     assert_eq!(rt; sections.found(&rt, T1, L, T0), Some((T0, [1, 0, 0])));
-}
-
-#[test]
-fn a_closed_section_is_found_by_its_number(rt: HostRuntime) {
-    drop(follow_all(&rt, rt.alloc(), ONE_SECTION));
 }

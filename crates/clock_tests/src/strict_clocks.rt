@@ -2,26 +2,114 @@
 //!
 //! How many events of each thread strictly precede an event is worked out by hand from the paper's rules. A
 //! memory permits each call, so the events are legal.
-ghost use Rattle.std.specs.Prelude.{◌≡◌};
+ghost use Rattle.std.specs.Prelude.{◌≡◌, ◌++◌, ◌∷◌, [], List};
+ghost use Rattle.event_core.specs.declared.events.Event.{Event};
+ghost use Rattle.traced_mem.specs.Standing.{StandsFor};
 ghost use Rattle.wcp_clocks.specs.Parts.{IsReady, IsWithin, SameLimits, SameNumbers, width_of};
 ghost use Rattle.clock_tests.specs.OneLog.{small, StandForOneLog};
 
-mod cases;
-
 use crate::clocks::{event, numbers_of};
 use crate::expected::expect;
-use crate::made::make;
-use cases::{CROSSED, Case, EARLIER_RELEASE, INNER, OF_ONE_THREAD, OVERLAPPING};
-use event_core::{AccessKind, Event, Limits, LockId, Op, Roots, ThreadId, VarId};
+use AccessKind::{Read, Write};
+use event_core::{AccessKind, Call, Event, Limits, LockId, Op, Roots, ThreadId, VarId};
 use std::alloc::Global;
 use std::process::Abort;
-use test_logs::{M, T0, T1, T2, X, Y, call_at, count_lines};
+use test_doubles::rows;
+use test_logs::{
+    M, NESTED_SECTIONS, RELEASES_OF_ONE_THREAD, T0, T1, T2, X, Y, call_at, count_lines,
+};
 use traced_mem::Memory;
 use wcp_clocks::WcpClocks;
 
-const LOAD: AccessKind = AccessKind::Read;
+/// A log, and what its strict clocks count.
+struct Case {
+    name: &'static str,
+    text: &'static str,
+    /// `(9, T1, [5, 0, 0])`: from event 9 on, five events of T0 strictly precede each event of T1, and none
+    /// of T1 and T2. Before its first entry no events precede a thread's events.
+    strict: &'static [(usize, ThreadId, [u64; 3])],
+    /// The thread of the last event, and how many are below it.
+    last: (ThreadId, [u64; 3]),
+    /// After so many events an access meets releases.
+    met: &'static [(usize, Access, &'static [Release])],
+}
 
-const STORE: AccessKind = AccessKind::Write;
+/// The thread, a lock that it holds, the variable, and the kind of the access.
+type Access = (ThreadId, LockId, VarId, AccessKind);
+
+/// Its thread, and of each thread how many events happened before it, which is one of them.
+type Release = (ThreadId, [u64; 3]);
+
+const CASES: &[Case] = rows! {
+    // T1's load takes the release of m, T0's fifth event, and with it the acquire of T0's section on l. So T1's
+    // release of l takes T0's release of l, its seventh event.
+    Case {
+        name: "rule (b) adds the earlier release at the later one",
+        text: NESTED_SECTIONS,
+        strict: &[(9, T1, [5, 0, 0]), (12, T1, [7, 0, 0])],
+        last: (T1, [7, 6, 0]),
+        // T1 has acquired m. T0's store to x is in the section on m that T0's fifth event ended.
+        met: rows! {
+            8, (T1, M, X, Read), &[(T0, [5, 0, 0])];
+            8, (T1, M, X, Write), &[(T0, [5, 0, 0])];
+            // its own, and another variable
+            8, (T0, M, X, Write), &[];
+            8, (T1, M, Y, Write), &[];
+        },
+    };
+    // T1's load takes T0's release of m, and with it the acquire of T0's first section on l. The lock k brings
+    // that to T0. So T0's second release of l takes the first, T0's ninth event, and the three events of T2
+    // that happen before it.
+    Case {
+        name: "rule (b) orders the releases of one thread",
+        text: RELEASES_OF_ONE_THREAD,
+        strict: &[(14, T1, [6, 0, 0]), (18, T0, [6, 0, 0]), (21, T0, [9, 0, 3])],
+        last: (T0, [14, 0, 3]),
+        // A store meets the newest store and the newest load. On m T0's section with a store to x ended at
+        // T0's sixth event, and T1's with a load of x at T1's third, before which T0's six happened.
+        met: rows! {
+            15, (T2, M, X, Read), &[(T0, [6, 0, 0])];
+            15, (T2, M, X, Write), &[(T0, [6, 0, 0]), (T1, [6, 3, 0])];
+        },
+    };
+    // The section on l ends before the store to y, and the section on k after it.
+    Case {
+        name: "a release ends the section of its own lock",
+        text: "T0|fork(T1)|1\nT0|acq(l)|2\nT0|acq(k)|3\nT0|w(x)|4\nT0|rel(l)|5\nT0|w(y)|6\nT0|rel(k)|7\n\
+            T1|acq(l)|8\nT1|r(x)|9\nT1|r(y)|10\nT1|rel(l)|11\nT1|acq(k)|12\nT1|r(y)|13\nT1|rel(k)|14\n\
+            T0|join(T1)|15\n",
+        strict: &[(9, T1, [5, 0, 0]), (13, T1, [7, 0, 0]), (15, T0, [7, 0, 0])],
+        last: (T0, [8, 7, 0]),
+        met: &[],
+    };
+    // T0's sections on l and on m overlap, and the store to x is in the first alone. So by rule (a) T1's load
+    // of x takes T0's release of l, its fifth event, and no more. T0's acquire of m, its fourth event, happens
+    // before that release, so it strictly precedes the load, which is in T1's section on m. So by rule (b)
+    // T1's release of m takes T0's release of m, its seventh event. Its release of l does not.
+    Case {
+        name: "rule (b) orders the releases of overlapping sections",
+        text: "T0|fork(T1)|1\nT0|acq(l)|2\nT0|w(x)|3\nT0|acq(m)|4\nT0|rel(l)|5\nT0|w(y)|6\nT0|rel(m)|7\n\
+            T1|acq(l)|8\nT1|acq(m)|9\nT1|r(x)|10\nT1|rel(l)|11\nT1|rel(m)|12\nT1|r(y)|13\n",
+        strict: &[(10, T1, [5, 0, 0]), (12, T1, [7, 0, 0])],
+        last: (T1, [7, 6, 0]),
+        met: &[],
+    };
+    // Both stores come after an inner release, and are in the sections of the outer acquires. The outer
+    // release is T0's sixth event.
+    Case {
+        name: "an inner release ends no section",
+        text: "T0|fork(T1)|1\nT0|acq(l)|2\nT0|acq(l)|3\nT0|rel(l)|4\nT0|w(x)|5\nT0|rel(l)|6\nT1|acq(l)|7\n\
+            T1|acq(l)|8\nT1|rel(l)|9\nT1|w(x)|10\nT1|rel(l)|11\n",
+        strict: &[(10, T1, [6, 0, 0])],
+        last: (T1, [6, 5, 0]),
+        met: &[],
+    };
+};
+
+// A test that names the table itself is proved over each of its bytes.
+fn cases() -> &'static [Case] {
+    CASES
+}
 
 fn small_limits(rt: &impl Abort) -> Limits
     ensures { result ≡ small }
@@ -39,148 +127,128 @@ fn prepare(rt: &impl Abort, clocks: &mut WcpClocks, event: &Event)
     assert!(rt; clocks.prepare(event).is_ok(), "memory");
 }
 
-fn strict_numbers(clocks: &WcpClocks, thread: ThreadId) -> [u64; 3]
-    requires { width_of clocks.now ≡ 3 }
+// The event of the call, which has to be permitted.
+fn make(rt: &impl Abort, memory: &mut Memory, call: &Call) -> Event
+    ensures limits { memory.new.limits ≡ memory.old.limits }
+    ensures stands { (log : List Event) → StandsFor log memory.old
+        → StandsFor (log ++ result ∷ []) memory.new }
 {
-    [
-        clocks.strict(thread, T0),
-        clocks.strict(thread, T1),
-        clocks.strict(thread, T2),
-    ]
+    memory.permit(call).expect(rt, "permitted");
+    memory.prepare(call).expect(rt, "memory");
+    let value = memory.apply(call);
+    call.event_with(value)
 }
 
-fn numbers_below(clocks: &WcpClocks, thread: ThreadId) -> [u64; 3]
-    requires { width_of clocks.now ≡ 3 }
-{
-    [
-        clocks.below(thread, T0),
-        clocks.below(thread, T1),
-        clocks.below(thread, T2),
-    ]
-}
-
-fn clock_numbers(clocks: &WcpClocks, thread: ThreadId) -> [u64; 3]
-    requires { width_of clocks.now ≡ 3 }
-{
-    let clock = clocks.clock(thread);
-    [clock.at(T0), clock.at(T1), clock.at(T2)]
-}
-
-// Takes the event of a call with no value, which has to be permitted.
-fn take(rt: &impl Abort, memory: &mut Memory, clocks: &mut WcpClocks, thread: ThreadId, op: Op)
+// Takes the event of the call.
+fn take(rt: &impl Abort, memory: &mut Memory, clocks: &mut WcpClocks, call: &Call)
     requires { StandForOneLog memory.old clocks.old }
     ensures { StandForOneLog memory.new clocks.new }
 {
-    let event = make(rt, memory, thread, op, 0);
+    let event = make(rt, memory, call);
     prepare(rt, clocks, &event);
     clocks.advance(&event);
 }
 
-// The strict numbers of the thread's event with the number.
-fn wanted(case: &Case, thread: ThreadId, number: usize) -> [u64; 3] {
-    let mut wanted = [0; 3];
-    for (from, of, numbers) in case.strict {
-        if *from <= number && *of == thread {
-            wanted = *numbers;
-        }
-    }
-    wanted
-}
-
-// Takes so many events in turn, and looks at the numbers after each.
-fn take_all(rt: &impl Abort, alloc: Global, case: &Case, count: usize) -> WcpClocks
-    ensures { width_of result ≡ 3 }
+// The last event has so many of each thread below it, which its thread's clock counts.
+fn expect_below(rt: &impl Abort, clocks: &WcpClocks, case: &Case)
+    requires { width_of clocks.now ≡ 3 }
 {
-    let limits = small_limits(rt);
-    let mut memory = Memory::new(alloc, limits).expect(rt, "no memory is taken");
-    let mut clocks = WcpClocks::new(alloc, limits).expect(rt, "memory");
-    for index in 0..count {
-        let call = call_at(case.text, index).expect(rt, "an event");
-        take(rt, &mut memory, &mut clocks, call.thread, call.op);
-        let strict = strict_numbers(&clocks, call.thread);
-        expect(rt, &index, strict, wanted(case, call.thread, index + 1));
-    }
-    drop(memory);
-    clocks
+    let (thread, wanted) = case.last;
+    let below = [
+        clocks.below(thread, T0),
+        clocks.below(thread, T1),
+        clocks.below(thread, T2),
+    ];
+    expect(rt, &(case.name, "below"), below, wanted);
+    let clock = clocks.clock(thread);
+    expect(
+        rt,
+        &(case.name, "clock"),
+        [clock.at(T0), clock.at(T1), clock.at(T2)],
+        wanted,
+    );
 }
 
-fn follow(rt: &impl Abort, alloc: Global, case: &Case) {
-    let clocks = take_all(rt, alloc, case, count_lines(case.text));
-    let below = numbers_below(&clocks, case.last);
-    expect(rt, &"below", below, case.below);
-    expect(rt, &"clock", clock_numbers(&clocks, case.last), case.below);
-    drop(clocks);
-}
-
-// After so many events an access by the thread under the lock meets these releases: of each its thread, and
-// of each thread how many events happened before it, which is one of them.
-fn follow_to_sources(
+// The access meets the releases.
+fn expect_met(
     rt: &impl Abort,
     alloc: Global,
-    (case, count): (&Case, usize),
-    access: (ThreadId, LockId, VarId, AccessKind),
-    wanted: &[(ThreadId, [u64; 3])],
-) {
-    let clocks = take_all(rt, alloc, case, count);
-    let (thread, lock, var, kind) = access;
+    clocks: &WcpClocks,
+    access: &Access,
+    wanted: &[Release],
+)
+    requires { width_of clocks.now ≡ 3 }
+{
+    let (thread, lock, var, kind) = *access;
     let mut sources = clocks.sources(thread, lock, var, kind);
-    for (at, row) in wanted.iter().enumerate() {
+    for row in wanted {
         let release = sources.next().expect(rt, "a release");
         let came = (release.by(), numbers_of(rt, alloc, &release));
-        expect(rt, &at, came, *row);
+        expect(rt, access, came, *row);
     }
     assert!(rt; sources.next().is_none());
     drop(sources);
+}
+
+// The strict numbers of the thread's event with the number.
+fn strict_numbers(case: &Case, thread: ThreadId, number: usize) -> [u64; 3] {
+    let mut numbers = [0; 3];
+    for (from, of, those) in case.strict {
+        if *from <= number && *of == thread {
+            numbers = *those;
+        }
+    }
+    numbers
+}
+
+// What the clocks count after the thread's event with the number.
+fn look(
+    rt: &impl Abort,
+    alloc: Global,
+    clocks: &WcpClocks,
+    case: &Case,
+    thread: ThreadId,
+    number: usize,
+)
+    requires { width_of clocks.now ≡ 3 }
+{
+    let strict = [
+        clocks.strict(thread, T0),
+        clocks.strict(thread, T1),
+        clocks.strict(thread, T2),
+    ];
+    expect(
+        rt,
+        &(case.name, number),
+        strict,
+        strict_numbers(case, thread, number),
+    );
+    for (after, access, releases) in case.met {
+        if *after == number {
+            expect_met(rt, alloc, clocks, access, releases);
+        }
+    }
+}
+
+fn follow(rt: &impl Abort, alloc: Global, case: &Case) {
+    let limits = small_limits(rt);
+    let mut memory = Memory::new(alloc, limits).expect(rt, "no memory is taken");
+    let mut clocks = WcpClocks::new(alloc, limits).expect(rt, "memory");
+    for index in 0..count_lines(case.text) {
+        let call = call_at(case.text, index).expect(rt, case.name);
+        take(rt, &mut memory, &mut clocks, &call);
+        look(rt, alloc, &clocks, case, call.thread, index + 1);
+    }
+    expect_below(rt, &clocks, case);
+    drop(memory);
     drop(clocks);
 }
 
 #[test]
-fn rule_b_adds_the_earlier_release_at_the_later_one(rt: HostRuntime) {
-    follow(&rt, rt.alloc(), &EARLIER_RELEASE);
-}
-
-#[test]
-fn rule_b_orders_the_releases_of_one_thread(rt: HostRuntime) {
-    follow(&rt, rt.alloc(), &OF_ONE_THREAD);
-}
-
-#[test]
-fn a_release_ends_the_section_of_its_own_lock(rt: HostRuntime) {
-    follow(&rt, rt.alloc(), &CROSSED);
-}
-
-#[test]
-fn rule_b_orders_the_releases_of_overlapping_sections(rt: HostRuntime) {
-    follow(&rt, rt.alloc(), &OVERLAPPING);
-}
-
-#[test]
-fn an_inner_release_ends_no_section(rt: HostRuntime) {
-    follow(&rt, rt.alloc(), &INNER);
-}
-
-// T1 has acquired m. T0's store to x is in the section on m that T0's fifth event ended.
-#[test]
-fn an_access_meets_the_release_of_a_section_in_conflict(rt: HostRuntime) {
-    let lines = (&EARLIER_RELEASE, 8);
-    let met: &[(ThreadId, [u64; 3])] = &[(T0, [5, 0, 0])];
-    follow_to_sources(&rt, rt.alloc(), lines, (T1, M, X, LOAD), met);
-    follow_to_sources(&rt, rt.alloc(), lines, (T1, M, X, STORE), met);
-    // its own, and another variable
-    follow_to_sources(&rt, rt.alloc(), lines, (T0, M, X, STORE), &[]);
-    follow_to_sources(&rt, rt.alloc(), lines, (T1, M, Y, STORE), &[]);
-}
-
-// On m T0's section with a store to x ended at T0's sixth event, and T1's with a load of x at T1's third,
-// before which T0's six happened.
-#[test]
-fn a_store_meets_the_newest_store_and_the_newest_load(rt: HostRuntime) {
-    let lines = (&OF_ONE_THREAD, 15);
-    let stored: (ThreadId, [u64; 3]) = (T0, [6, 0, 0]);
-    let loaded: (ThreadId, [u64; 3]) = (T1, [6, 3, 0]);
-    let both = &[stored, loaded];
-    follow_to_sources(&rt, rt.alloc(), lines, (T2, M, X, LOAD), &[stored]);
-    follow_to_sources(&rt, rt.alloc(), lines, (T2, M, X, STORE), both);
+fn each_log_has_its_strict_numbers(rt: HostRuntime) {
+    for case in cases() {
+        follow(&rt, rt.alloc(), case);
+    }
 }
 
 #[test]

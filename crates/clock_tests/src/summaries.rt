@@ -4,10 +4,13 @@ ghost use Rattle.event_core.specs.declared.events.AccessKind.{AccessKind};
 ghost use Rattle.section_sum.specs.Sums.{noted_of};
 
 use crate::expected::expect;
+use AccessKind::{Read, Write};
+use Row::{Meets, Section};
 use event_core::{AccessKind, Limits, LockId, Roots, ThreadId, VarId};
 use section_sum::Summaries;
-use std::alloc::Global;
 use std::process::Abort;
+use test_doubles::rows;
+use test_logs::{T0, T1, T2};
 
 const A: LockId = LockId(0);
 
@@ -17,55 +20,60 @@ const X: VarId = VarId(7);
 
 const Y: VarId = VarId(3);
 
-const LOAD: AccessKind = AccessKind::Read;
-
-const STORE: AccessKind = AccessKind::Write;
+const T3: ThreadId = ThreadId(3);
 
 /// What is done, or what is found.
 enum Row {
     /// The thread has a section on both locks with such an access, and its releases have this number.
-    Section(u32, &'static [LockId; 2], VarId, AccessKind, u32),
+    Section(ThreadId, &'static [LockId; 2], VarId, AccessKind, u32),
     /// Such an access of the thread under the lock meets the sections of these numbers: the newest with a
     /// store, and the newest with a load where it is a store.
-    Meets(u32, LockId, VarId, AccessKind, [Option<u32>; 2]),
+    Meets(ThreadId, LockId, VarId, AccessKind, [Option<u32>; 2]),
 }
 
-const ONE_STORE: &[Row] = &[
-    Row::Section(1, &[A, A], X, STORE, 1),
-    Row::Meets(2, A, X, LOAD, [Some(1), None]),
-    Row::Meets(2, A, X, STORE, [Some(1), None]),
-    // its own
-    Row::Meets(1, A, X, LOAD, [None, None]),
-    // another lock, and another variable
-    Row::Meets(2, B, X, LOAD, [None, None]),
-    Row::Meets(2, A, Y, LOAD, [None, None]),
-];
+/// What a case shows, and its rows.
+type Case = (&'static str, &'static [Row]);
 
-const LOAD_AND_STORE: &[Row] = &[
-    Row::Section(1, &[A, A], X, LOAD, 1),
-    Row::Meets(2, A, X, LOAD, [None, None]),
-    Row::Meets(2, A, X, STORE, [Some(1), None]),
-    Row::Section(2, &[A, A], X, STORE, 2),
-    Row::Meets(3, A, X, LOAD, [Some(2), None]),
-    Row::Meets(3, A, X, STORE, [Some(2), Some(1)]),
-    // except its own load
-    Row::Meets(1, A, X, STORE, [Some(2), None]),
-];
+const CASES: &[Case] = rows! {
+    "an access meets the sections of other threads", rows! {
+        Section(T1, &[A, A], X, Write, 1);
+        Meets(T2, A, X, Read, [Some(1), None]);
+        Meets(T2, A, X, Write, [Some(1), None]);
+        // its own
+        Meets(T1, A, X, Read, [None, None]);
+        // another lock, and another variable
+        Meets(T2, B, X, Read, [None, None]);
+        Meets(T2, A, Y, Read, [None, None]);
+    };
+    "a load meets stores alone", rows! {
+        Section(T1, &[A, A], X, Read, 1);
+        Meets(T2, A, X, Read, [None, None]);
+        Meets(T2, A, X, Write, [Some(1), None]);
+        Section(T2, &[A, A], X, Write, 2);
+        Meets(T3, A, X, Read, [Some(2), None]);
+        Meets(T3, A, X, Write, [Some(2), Some(1)]);
+        // except its own load
+        Meets(T1, A, X, Write, [Some(2), None]);
+    };
+    "an access counts in each open section", rows! {
+        Section(T1, &[A, B], X, Write, 1);
+        Meets(T2, A, X, Read, [Some(1), None]);
+        Meets(T2, B, X, Read, [Some(1), None]);
+    };
+    "a thread meets the newest of another", rows! {
+        Section(T1, &[A, A], X, Write, 1);
+        Section(T2, &[A, A], X, Write, 2);
+        Section(T1, &[A, A], X, Write, 3);
+        Meets(T1, A, X, Read, [Some(2), None]);
+        Meets(T2, A, X, Read, [Some(3), None]);
+        Meets(T0, A, X, Read, [Some(3), None]);
+    };
+};
 
-const TWO_LOCKS: &[Row] = &[
-    Row::Section(1, &[A, B], X, STORE, 1),
-    Row::Meets(2, A, X, LOAD, [Some(1), None]),
-    Row::Meets(2, B, X, LOAD, [Some(1), None]),
-];
-
-const THREE_STORES: &[Row] = &[
-    Row::Section(1, &[A, A], X, STORE, 1),
-    Row::Section(2, &[A, A], X, STORE, 2),
-    Row::Section(1, &[A, A], X, STORE, 3),
-    Row::Meets(1, A, X, LOAD, [Some(2), None]),
-    Row::Meets(2, A, X, LOAD, [Some(3), None]),
-    Row::Meets(0, A, X, LOAD, [Some(3), None]),
-];
+// A test that names the table itself is proved over each of its bytes.
+fn cases() -> &'static [Case] {
+    CASES
+}
 
 /// Summaries in which no section is open.
 #[derive(Drop)]
@@ -110,53 +118,28 @@ fn met(
     [first, sources.next()]
 }
 
-fn follow(rt: &impl Abort, sections: &mut Sections, at: usize, row: &Row) {
+fn follow(rt: &impl Abort, sections: &mut Sections, place: (&str, usize), row: &Row) {
     match row {
-        Row::Section(thread, locks, var, kind, number) => {
-            section(
-                rt,
-                sections,
-                ThreadId(*thread),
-                **locks,
-                *var,
-                *kind,
-                *number,
-            );
+        Section(thread, locks, var, kind, number) => {
+            section(rt, sections, *thread, **locks, *var, *kind, *number);
         }
-        Row::Meets(thread, lock, var, kind, wanted) => {
-            let came = met(sections, ThreadId(*thread), *lock, *var, *kind);
-            expect(rt, &at, came, *wanted);
+        Meets(thread, lock, var, kind, wanted) => {
+            let came = met(sections, *thread, *lock, *var, *kind);
+            expect(rt, &place, came, *wanted);
         }
     }
 }
 
-fn follow_all(rt: &impl Abort, alloc: Global, rows: &[Row]) {
-    let limits = Limits::new(4, 6, 8, 64, Roots::Free).expect(rt, "small limits");
-    let mut sections = Sections {
-        summaries: Summaries::new(alloc, limits).expect(rt, "no memory is taken"),
-    };
-    for (at, row) in rows.iter().enumerate() {
-        follow(rt, &mut sections, at, row);
+#[test]
+fn each_access_meets_the_newest_sections_of_others(rt: HostRuntime) {
+    let limits = Limits::new(4, 6, 8, 64, Roots::Free).expect(&rt, "small limits");
+    for (name, rows) in cases() {
+        let mut sections = Sections {
+            summaries: Summaries::new(rt.alloc(), limits).expect(&rt, "no memory is taken"),
+        };
+        for (at, row) in rows.iter().enumerate() {
+            follow(&rt, &mut sections, (*name, at), row);
+        }
+        drop(sections);
     }
-    drop(sections);
-}
-
-#[test]
-fn an_access_meets_the_sections_of_other_threads(rt: HostRuntime) {
-    follow_all(&rt, rt.alloc(), ONE_STORE);
-}
-
-#[test]
-fn a_load_meets_stores_alone(rt: HostRuntime) {
-    follow_all(&rt, rt.alloc(), LOAD_AND_STORE);
-}
-
-#[test]
-fn an_access_counts_in_each_open_section(rt: HostRuntime) {
-    follow_all(&rt, rt.alloc(), TWO_LOCKS);
-}
-
-#[test]
-fn a_thread_meets_the_newest_of_another(rt: HostRuntime) {
-    follow_all(&rt, rt.alloc(), THREE_STORES);
 }

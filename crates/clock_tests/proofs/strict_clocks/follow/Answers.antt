@@ -4,7 +4,7 @@ use Rattle.traced_mem.specs.Standing.{StandsFor as MemoryStandsFor}
 use Rattle.wcp_clocks.specs.Parts.{width_of, limits_of, work_of}
 use Rattle.wcp_clocks.specs.Standing.{StandsFor}
 use Rattle.clock_tests.proofs.OneLog.{no_events}
-use Rattle.clock_tests.proofs.strict_clocks.take_all.Goals as goal
+use Rattle.clock_tests.proofs.strict_clocks.follow.Goals as goal
 
 pub loop-index-init : goal.loop-index-init
 loop-index-init g c =
@@ -20,12 +20,6 @@ loop-index-init g c =
     (subst (λ r. IfOk r (λ p. width_of p ≡ limits.threads)) clocks c.new-2.ensures.width
     ∙ ap (λ (m : Limits). m.threads) small)
     (subst (λ r. IfOk r (λ p. limits_of p ≡ limits)) clocks c.new-2.ensures.limits ∙ small)
-
-pub strict_numbers-strict-requires : goal.strict_numbers-strict-requires
-strict_numbers-strict-requires g c = c.take.ensures.width
-
-pub returns : goal.returns
-returns g c = c.loop-index.invariant.width
 
 pub loop-index-preserved : goal.loop-index-preserved
 loop-index-preserved g c = c.take.ensures
