@@ -1,47 +1,54 @@
 -- Why there is no script.
-use Rattle.std.proofs.Common.{◌≡◌, ◌≢◌, ℕ, ◌≤◌, ◌++◌, List, [], Option, Some, None, Ok, ap, ◌∙◌, sym, subst}
-use Rattle.std.proofs.Common.{true, inl, inr, refl, arith}
-use Rattle.std.specs.Prelude.{IfSome, IsSomeAnd}
+use Rattle.std.proofs.Common.{◌≡◌, ℕ, ◌+◌, ◌≤◌, ◌++◌, List, [], ◌∷◌, length, Option, Some, None, Ok, ap}
+use Rattle.std.proofs.Common.{append-nil, ◌∙◌, sym, subst, inl, inr, refl, arith}
+use Rattle.std.specs.Prelude.{IfSome, Result, Err}
 use Rattle.std.proofs.lemmas.Option.{IfSome_then}
-use Rattle.std.specs.Io.KnownBytes.{Consumes, IsAtEnd}
 use Rattle.event_core.specs.Bounds.{Bounds}
+use Rattle.rapid_line.specs.Cut.{content}
 use Rattle.rapid_line.specs.Lines.{lines_of}
-use Rattle.rapid_text.specs.Feeding.{Pulled, Whole}
-use Rattle.rapid_text.specs.Taking.{lines_place}
-use Rattle.rapid_text.proofs.TakingProperties.{truncates}
+use Rattle.rapid_text.specs.Feeding.{FoldsEnded, OfText}
+use Rattle.rapid_text.specs.Folds.{FoldsAll, FaultIn}
+use Rattle.rapid_text.specs.Taking.{Truncates}
 use Rattle.script_text.specs.declared.causes.ScriptCause.{ScriptCause}
 use Rattle.script_text.specs.declared.causes.ScriptCause.TheVariants as causes
 use Rattle.script_text.specs.declared.causes.ScriptFault.{ScriptFault}
-use Rattle.script_text.specs.Scripts.{Parsed, IsDraft, begun, script_of}
-use Rattle.script_text.specs.Readings.{Progress, unread, script_after, Takes, PieceFails}
-use Rattle.script_text.specs.Readings.{EndFails, is_of_line, HasFault}
-use Rattle.script_text.specs.Readings.{HasNoneBefore, Incomplete, IsFault, ReadFails}
-use Rattle.script_text.proofs.TakesProperties.{judge_from}
+use Rattle.script_text.specs.Forms.{Fails}
+use Rattle.script_text.specs.Scripts.{Parsed, IsDraft, begun, judge, script_of, after_content}
+use Rattle.script_text.specs.Readings.{Reads, Stops, HasFault, HasNoneBefore, Incomplete, IsFault, ReadFails}
+use Rattle.script_text.proofs.ReadsProperties.{judge_from, reads_judged, stop_found}
 use Rattle.script_text.proofs.AreLegalProperties.{draft_judged, draft_begun}
 
--- what is so however the text goes on after what came, is so of the text that was left
-known : (P : List ℕ → Type 0) (left rest : Option (List ℕ)) (came : List ℕ) → Consumes left rest came
-    → ((more : List ℕ) → P (came ++ more)) → IfSome left P
-known P None rest came c h = tt
-known P (Some xs) None came c h = absurd c
-known P (Some xs) (Some ys) came c h = subst P (sym c) (h ys)
+-- what is so of some text is so of the text that was left, where that is known
+known : (P : List ℕ → Type 0) (left : Option (List ℕ)) → OfText left P → IfSome left P
+known P None h = tt
+known P (Some text) h = subst P h.is_left h.holds
 
--- and where the text ended, what is so of what came
-known_whole : (P : List ℕ → Type 0) (left rest : Option (List ℕ)) (came : List ℕ) → Consumes left rest came
-    → IsAtEnd rest → P (came ++ []) → IfSome left P
-known_whole P None rest came c end h = tt
-known_whole P (Some xs) None came c end h = absurd c
-known_whole P (Some xs) (Some ys) came c end h =
-    subst P (sym (c ∙ ap (λ (t : List ℕ). came ++ t) end)) h
+-- a text whose lines were all read
+read_all : (limits : Bounds) (text : List ℕ) (s : Parsed) → FoldsAll Reads (begun limits) text s
+    → script_of limits text ≡ Ok s
+read_all limits text s h =
+    ap (λ (ls : List (List ℕ)). judge (begun limits) 1 ls) (sym (append-nil (lines_of text)))
+    ∙ reads_judged 1 (1 + length (lines_of text)) (begun limits) s (lines_of text) [] h refl
 
-module _ (limits : Bounds) (left rest : Option (List ℕ)) (turns : ℕ) (Why : List ℕ → Type 0) where
-  fault_as : (k : ScriptCause) (f : ScriptFault) → (is_of_line k ≡ true → HasFault limits left f)
-      → HasNoneBefore limits left f.line → k ≢ causes.Read → k ≢ causes.NoFork
+pub read_script : (limits : Bounds) (left : Option (List ℕ)) (s : Parsed)
+    → OfText left (λ text. FoldsAll Reads (begun limits) text s)
+    → IfSome left (λ text. script_of limits text ≡ Ok s)
+read_script limits left s h = known (λ text. script_of limits text ≡ Ok s) left
+    (record { text = h.text; is_left = h.is_left; holds = read_all limits h.text s h.holds })
+
+pub read_draft : (limits : Bounds) (left : Option (List ℕ)) (s : Parsed)
+    → OfText left (λ text. FoldsAll Reads (begun limits) text s) → IsDraft s
+read_draft limits left s h =
+    draft_judged (begun limits) 1 (lines_of h.text) s (draft_begun limits) (read_all limits h.text s h.holds)
+
+module _ (limits : Bounds) (left rest : Option (List ℕ)) (Why : List ℕ → Type 0) where
+  fault_as : (k : ScriptCause) (r : Result Parsed ScriptCause) (f : ScriptFault) → Fails k r
+      → (r ≡ Err k → HasFault limits left f) → HasNoneBefore limits left f.line
       → IsFault limits left rest Why f k
-  fault_as causes.OutOfMemory f finds first read of_line = first
-  fault_as causes.NoFork f finds first read of_line = absurd (of_line refl)
-  fault_as causes.Read f finds first read of_line = absurd (read refl)
-  fault_as k f finds first read of_line = finds refl
+  fault_as causes.OutOfMemory r f h finds first = first
+  fault_as causes.NoFork r f h finds first = absurd h
+  fault_as causes.Read r f h finds first = absurd h
+  fault_as k r f h finds first = finds h
 
   -- memory ran out before the first line
   pub memory_fault : (f : ScriptFault) → f ≡ record { line = 1; cause = causes.OutOfMemory }
@@ -65,47 +72,43 @@ module _ (limits : Bounds) (left rest : Option (List ℕ)) (turns : ℕ) (Why : 
       IfSome_then left all (λ text e. record { parsed = s; reads = e; first = h.1 }) in
       subst (λ (k : ScriptCause). IsFault limits left rest Why f k) (sym h.0) here
 
-  -- ---- a text that was pulled
+  -- ---- a text that was read
 
-  module _ (start : Progress) (is : start ≡ unread limits) where
-    pub stopped_fault : (o : Option ScriptFault) (f : ScriptFault) → turns ≤ 17592186044416
-        → Pulled left rest turns (λ bytes. IsSomeAnd o (PieceFails start bytes)) → o ≡ Some f
-        → IsFault limits left rest Why f f.cause
-    stopped_fault o f few p some =
-        let stops = subst (λ (q : Progress). PieceFails q p.bytes f) is
-        (subst (λ (x : Option ScriptFault). IsSomeAnd x (PieceFails start p.bytes)) some p.so) in
-        fault_as f.cause f (λ own. known _ left rest p.bytes p.came (stops.at.finds own))
-        (known _ left rest p.bytes p.came stops.at.first)
-        (λ e. let many = stops.read e in absurd (omega (arith, many, p.few, few))) stops.at.of_line
+  pub stopped_fault : (f : ScriptFault) → OfText left (λ text. FaultIn Reads Stops (begun limits) text f)
+      → IsFault limits left rest Why f f.cause
+  stopped_fault f h =
+      let k = h.holds in
+      let place : ℕ = 1 + length k.front in
+      let rest_judged : script_of limits h.text ≡ judge k.before place (k.line ∷ k.others) =
+      ap (λ (ls : List (List ℕ)). judge (begun limits) 1 ls) k.is
+      ∙ reads_judged 1 place (begun limits) k.before k.front (k.line ∷ k.others) k.folds refl in
+      let stop = k.stops in
+      fault_as f.cause (after_content k.before place (content k.line)) f stop.why
+      (λ is. known (λ text. script_of limits text ≡ Err f) left (record {
+        text = h.text;
+        is_left = h.is_left;
+        holds = rest_judged ∙ stop_found k.before place k.line k.others f stop.at is;
+      }))
+      (known (λ text. (g : ScriptFault) → script_of limits text ≡ Err g → f.line ≤ g.line) left (record {
+        text = h.text;
+        is_left = h.is_left;
+        holds = λ g e.
+            let from = judge_from k.before place (k.line ∷ k.others) g (sym rest_judged ∙ e) in
+            omega (arith, from, stop.at);
+      }))
 
-    module _ (now : Progress) where
-      abbrev IsRead : List ℕ → Type 0
-      IsRead bytes = Takes start bytes [] now
-
-      taken : (bytes : List ℕ) → IsRead bytes → Takes (unread limits) bytes [] now
-      taken bytes h = subst (λ (q : Progress). Takes q bytes [] now) is h
-
-      pub end_fault : (f : ScriptFault) → Whole left rest turns IsRead → EndFails now f
-          → IsFault limits left rest Why f f.cause
-      end_fault f w stops =
-          let p = w.pulled in
-          let law = (taken p.bytes p.so).law [] in
-          fault_as f.cause f
-          (λ own. known_whole _ left rest p.bytes p.came w.ended (law ∙ stops.at.finds own []))
-          (known_whole _ left rest p.bytes p.came w.ended (λ g e. stops.at.first [] g (sym law ∙ e)))
-          stops.read stops.at.of_line
-
-      pub all_draft : (s : Parsed) → Whole left rest turns IsRead → script_after now [] ≡ Ok s → IsDraft s
-      all_draft s w e =
-          draft_judged (begun limits) 1 (lines_of (w.pulled.bytes ++ [])) s (draft_begun limits)
-          ((taken w.pulled.bytes w.pulled.so).law [] ∙ e)
-
-      pub read_fault : (n : ℕ) → Pulled left rest turns (λ bytes. IsRead bytes × Why bytes)
-          → n ≡ now.cutter.unfinished
-          → IsFault limits left rest Why (record { line = n; cause = causes.Read }) causes.Read
-      read_fault n p at =
-          let t = taken p.bytes p.so.0 in
-          subst (λ (m : ℕ). ReadFails limits left rest Why m) (sym at)
-          (truncates left rest Why (lines_place now.cutter) _ p.bytes p.came p.so.1 t.advances
-          (λ more g e. judge_from now.parsed now.cutter.unfinished (lines_of (now.cutter.kept ++ more)) g
-          (sym (t.law more) ∙ e)))
+  pub read_fault : (n : ℕ) (s : Parsed)
+      → Truncates left rest Why n (λ came. FoldsEnded Reads (begun limits) came n s)
+      → IsFault limits left rest Why (record { line = n; cause = causes.Read }) causes.Read
+  read_fault n s t = record {
+    came = t.came;
+    bytes = t.bytes;
+    why = t.why;
+    at = t.at;
+    short = t.short;
+    so = λ more g e.
+        let later = t.so.law more in
+        judge_from s n later.0 g
+        (sym (ap (λ (ls : List (List ℕ)). judge (begun limits) 1 ls) later.1
+        ∙ reads_judged 1 n (begun limits) s t.so.ended later.0 t.so.folds t.so.next) ∙ e);
+  }

@@ -1,7 +1,7 @@
 pub mod Digits
 pub mod NameBytes
 pub mod Locations
-pub mod TakesProperties
+pub mod ReadsProperties
 pub mod MarksProperties
 pub mod AreLegalProperties
 pub mod IsFaultProperties

@@ -4,5 +4,4 @@ pub mod Forms
 pub mod Lines
 pub mod Scripts
 pub mod Readings
-pub mod ReadingLaws
 pub mod Marks

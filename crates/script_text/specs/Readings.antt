@@ -1,62 +1,25 @@
--- A script that is read in pieces: what is still to be judged, and why the reading stops.
-use Rattle.std.specs.Prelude.{◌≡◌, ◌≢◌, ℕ, ◌+◌, ◌<◌, ◌≤◌, ◌⊎◌, Bool, true, false, List, [], ◌++◌, length}
-use Rattle.std.specs.Prelude.{IfSome, Option, Result, Ok, Err}
+-- A script that is read line by line, and why there is none.
+use Rattle.std.specs.Prelude.{◌≡◌, ℕ, ◌≤◌, ◌⊎◌, List, ◌++◌, IfSome, Option, Ok, Err}
 use Rattle.event_core.specs.Bounds.{Bounds}
-use Rattle.rapid_line.specs.Lines.{Lines, no_bytes, most, to_come}
-use Rattle.rapid_text.specs.Tables.{Tables}
-use Rattle.rapid_text.specs.Taking.{Advances, Truncates, lines_place}
+use Rattle.rapid_line.specs.Cut.{content}
+use Rattle.rapid_text.specs.Taking.{Truncates}
 use Rattle.script_text.specs.declared.lines.ScriptLine.{ScriptLine}
 use Rattle.script_text.specs.declared.causes.ScriptCause.{ScriptCause}
 use Rattle.script_text.specs.declared.causes.ScriptCause.TheVariants as causes
 use Rattle.script_text.specs.declared.causes.ScriptFault.{ScriptFault}
-use Rattle.script_text.specs.Scripts.{Parsed, begun, judge, script_of, IsFirstUnreached}
+use Rattle.script_text.specs.Forms.{Fails}
+use Rattle.script_text.specs.Scripts.{Parsed, after_content, script_of, IsFirstUnreached}
 
--- what was judged, and what the cutter holds of the lines
-pub record Progress : Type 0 where
-  pub parsed : Parsed
-  pub cutter : Lines
+-- ---- a line
 
-abbrev pub progress : Tables → List ScriptLine → Lines → Progress
-progress names lines cutter = record { parsed = record { names = names; lines = lines }; cutter = cutter }
+-- the line was read: its content follows what was read before it
+abbrev pub Reads : Parsed → ℕ → List ℕ → Parsed → Type 0
+Reads s n line t = after_content s n (content line) ≡ Ok t
 
--- before the first byte
-abbrev pub unread : Bounds → Progress
-unread limits = record { parsed = begun limits; cutter = no_bytes }
-
--- what the lines to come make of what was judged, if these bytes follow
-abbrev pub script_after : Progress → List ℕ → Result Parsed ScriptFault
-script_after p more = judge p.parsed p.cutter.unfinished (to_come p.cutter more)
-
--- ---- a piece
-
--- all bytes but the rest were taken, and what is still to be judged is the same
-pub record Takes (old : Progress) (bytes rest : List ℕ) (new : Progress) : Type 0 where
-  pub law : (more : List ℕ) → script_after old (bytes ++ more) ≡ script_after new (rest ++ more)
-  pub advances : Advances (lines_place old.cutter) bytes rest (lines_place new.cutter)
-
--- the cause is one that a line has
-abbrev pub is_of_line : ScriptCause → Bool
-is_of_line causes.NoFork = false
-is_of_line causes.Read = false
-is_of_line causes.OutOfMemory = false
-is_of_line cause = true
-
--- each of these texts has the fault, or memory ran out before a line with a cause
-pub record FailsEach (f : ScriptFault) (texts : List ℕ → Result Parsed ScriptFault) : Type 0 where
-  pub finds : is_of_line f.cause ≡ true → (more : List ℕ) → texts more ≡ Err f
-  pub first : (more : List ℕ) (g : ScriptFault) → texts more ≡ Err g → f.line ≤ g.line
-  pub of_line : f.cause ≢ causes.NoFork
-
--- so it is with each text that goes on after the bytes; it is a read fault only where more bytes came than a
--- cutter takes
-pub record PieceFails (old : Progress) (bytes : List ℕ) (f : ScriptFault) : Type 0 where
-  pub at : FailsEach f (λ more. script_after old (bytes ++ more))
-  pub read : f.cause ≡ causes.Read → most < old.cutter.taken + length bytes
-
--- so it is where nothing follows
-pub record EndFails (old : Progress) (f : ScriptFault) : Type 0 where
-  pub at : FailsEach f (λ more. script_after old [])
-  pub read : f.cause ≢ causes.Read
+-- the line has this fault, or memory ran out while it was read
+pub record Stops (s : Parsed) (n : ℕ) (line : List ℕ) (f : ScriptFault) : Type 0 where
+  pub at : f.line ≡ n
+  pub why : Fails f.cause (after_content s n (content line))
 
 -- ---- why there is no script
 

@@ -1,143 +1,55 @@
-//! A script that is read in pieces, however it is cut.
-ghost use Rattle.std.specs.Prelude.{◌≡◌, ◌≢◌, ◌≤◌, [], false, length, Ok, IfErr, IfOk, IfSome, OnOk};
+//! A script that is read line by line, however it is cut into pieces.
+ghost use Rattle.std.specs.Prelude.{◌≡◌, ◌≢◌, ◌≤◌, false, Ok, IfErr, IfOk, IfSome, OnOk};
 ghost use Rattle.rapid_text.specs.Feeding.{WithinTurns};
 ghost use Rattle.rapid_text.specs.Turns.{IsCutShort, PulledWithin};
-ghost use Rattle.script_text.specs.Forms.{Fails};
-ghost use Rattle.script_text.specs.Scripts.{IsDraft, after_content, script_of};
-ghost use Rattle.script_text.specs.Readings.{progress, unread, script_after, Takes};
-ghost use Rattle.script_text.specs.Readings.{PieceFails, EndFails, IsFault};
-ghost use Rattle.rapid_line.specs.Cut.{content};
+ghost use Rattle.script_text.specs.Scripts.{IsDraft, script_of};
+ghost use Rattle.script_text.specs.Readings.{IsFault};
 
 use crate::causes::{ScriptCause, ScriptFault};
 use crate::draft::add_line;
 use crate::stored_lines::StoredLine;
 use event_core::Limits;
-use rapid_line::{LineCutter, LineTooLong, without_cr};
-use rapid_text::{Fed, Input, Names, Sink, feed_all};
+use rapid_line::{Line, without_cr};
+use rapid_text::{Input, LineSink, Names, take_text};
 use std::alloc::Global;
+use std::marker::Model;
 
-/// What was read of a script: its names and its lines, the line whose end was not seen, and the first fault.
+/// What was read of a script.
 #[derive(Drop)]
-struct Reading {
+struct Draft {
     names: Names,
     lines: Vec<StoredLine>,
-    cutter: LineCutter,
-    fault: Option<ScriptFault>,
 }
 
-/// The fault of a read that failed. It is at the line whose end was not seen.
-fn read_fault(cutter: &LineCutter) -> ScriptFault
-    ensures { result ≡ record { line = cutter.now.unfinished; cause = ScriptCause.Read } }
-{
-    ScriptFault {
-        line: cutter.unfinished(),
-        cause: ScriptCause::Read,
-    }
+impl Model for Draft {
+    ghost use Rattle.script_text.specs.Scripts.{Parsed};
+
+    ghost Value = { Parsed };
+
+    ghost view = { λ d. record { names = d.names; lines = d.lines.items } };
 }
 
-/// Judges a line, which stands without its LF.
-fn judge_line(
-    names: &mut Names,
-    lines: &mut Vec<StoredLine>,
-    line: u64,
-    bytes: &[u8],
-) -> Result<(), ScriptFault>
-    ensures ok { OnOk result
-        (after_content (record { names = names.old; lines = lines.old.items }) line (content bytes.now)
-        ≡ Ok (record { names = names.new; lines = lines.new.items })) }
-    ensures at { IfErr result (λ f. f.line ≡ line) }
-    ensures fault { IfErr result (λ f. Fails f.cause
-        (after_content (record { names = names.old; lines = lines.old.items }) line (content bytes.now))) }
-{
-    match add_line(names, lines, line, without_cr(bytes)) {
-        Ok(()) => Ok(()),
-        Err(cause) => Err(ScriptFault { line, cause }),
-    }
-}
+impl LineSink for Draft {
+    ghost use Rattle.script_text.specs.Readings.{Reads, Stops};
 
-/// Takes the lines that end in the piece, up to the first that has a cause.
-fn read_piece(
-    names: &mut Names,
-    lines: &mut Vec<StoredLine>,
-    cutter: &mut LineCutter,
-    piece: &[u8],
-) -> Result<(), ScriptFault>
-    ensures ok { OnOk result (Takes (progress names.old lines.old.items cutter.old) piece.now []
-        (progress names.new lines.new.items cutter.new)) }
-    ensures fault { IfErr result (PieceFails (progress names.old lines.old.items cutter.old) piece.now) }
-{
-    if !cutter.has_room(piece) {
-        return Err(read_fault(cutter));
-    }
-    let mut rest = piece;
-    'lines: loop {
-        let (line, after) = match cutter.next_line(rest) {
-            Ok(Some(cut)) => cut,
-            Ok(None) => return Ok(()),
-            Err(LineTooLong) => return Err(ScriptFault {
-                line: cutter.unfinished(),
-                cause: ScriptCause::LineTooLong,
-            }),
-        };
-        if let Err(fault) = judge_line(names, lines, line.number, cutter.line(line).bytes) {
-            return Err(fault);
+    type Fault = ScriptFault;
+
+    ghost takes = { λ s n line t. Reads s n line t };
+
+    ghost stops = { λ s n line f. Stops s n line f };
+
+    #[tactic(auto, using(crate::proofs::ReadsProperties::long_stops))]
+    fn too_long(&self, number: u64) -> ScriptFault {
+        ScriptFault {
+            line: number,
+            cause: ScriptCause::LineTooLong,
         }
-        rest = after;
-    }
-}
-
-/// Takes the line whose end was not seen as the last one.
-fn finish(
-    names: &mut Names,
-    lines: &mut Vec<StoredLine>,
-    cutter: &mut LineCutter,
-) -> Result<(), ScriptFault>
-    ensures ok { OnOk result (script_after (progress names.old lines.old.items cutter.old) []
-        ≡ Ok (record { names = names.new; lines = lines.new.items })) }
-    ensures fault { IfErr result (EndFails (progress names.old lines.old.items cutter.old)) }
-{
-    let Some(line) = cutter.last_line() else {
-        return Ok(());
-    };
-    judge_line(names, lines, line.number, cutter.line(line).bytes)
-}
-
-impl Sink for Reading {
-    ghost use Rattle.std.specs.Prelude.{[], IsSomeAnd};
-    ghost use Rattle.script_text.specs.Readings.{progress, Takes, PieceFails};
-    ghost use Rattle.script_text.specs.ReadingLaws.{takes_none, takes_both, some_stops_after};
-
-    ghost takes = { λ s bytes t. Takes (progress s.names s.lines.items s.cutter) bytes []
-        (progress t.names t.lines.items t.cutter) };
-
-    ghost stops = { λ s bytes t.
-        IsSomeAnd t.fault (PieceFails (progress s.names s.lines.items s.cutter) bytes) };
-
-    fn feed(&mut self, piece: &[u8]) -> bool {
-        if let Err(fault) = read_piece(&mut self.names, &mut self.lines, &mut self.cutter, piece) {
-            self.fault = Some(fault);
-            return false;
-        }
-        true
     }
 
-    ghost takes_nothing = { λ s. takes_none (progress s.names s.lines.items s.cutter) [] };
-
-    ghost takes_both = { λ r s t front rest first then. takes_both first then };
-
-    ghost stops_after = { λ r s t front rest first then. some_stops_after rest t.fault first then };
-}
-
-impl Reading {
-    /// Before the first byte.
-    fn new(alloc: Global, limits: Limits) -> Reading
-        ensures { progress result.names result.lines.items result.cutter ≡ unread limits }
-    {
-        Reading {
-            names: Names::new(alloc, limits),
-            lines: Vec::new(alloc),
-            cutter: LineCutter::new(),
-            fault: None,
+    fn take(&mut self, number: u64, line: Line<'_>) -> Result<(), ScriptFault> {
+        match add_line(&mut self.names, &mut self.lines, number, without_cr(line.bytes)) {
+            Ok(()) => Ok(()),
+            Err(cause) => Err(ScriptFault { line: number, cause }),
         }
     }
 }
@@ -161,14 +73,19 @@ pub fn read_lines<I: Input>(
     ensures healthy { OnOk result (I.failed reader.new ≡ false) }
     ensures told { IfErr result (λ f. f.cause ≢ ScriptCause.Read → I.failed reader.new ≡ false) }
 {
-    let mut reading = Reading::new(alloc, limits);
-    match feed_all(reader, &mut reading, turns) {
-        Fed::Whole => {}
-        Fed::Stopped => return Err(reading.fault.unwrap()),
-        Fed::Truncated => return Err(read_fault(&reading.cutter)),
+    let mut draft = Draft {
+        names: Names::new(alloc, limits),
+        lines: Vec::new(alloc),
+    };
+    let cut_at = match take_text(reader, &mut draft, turns) {
+        Ok(cut_at) => cut_at,
+        Err(fault) => return Err(fault),
+    };
+    if let Some(line) = cut_at {
+        return Err(ScriptFault {
+            line,
+            cause: ScriptCause::Read,
+        });
     }
-    if let Err(fault) = finish(&mut reading.names, &mut reading.lines, &mut reading.cutter) {
-        return Err(fault);
-    }
-    Ok((reading.names, reading.lines))
+    Ok((draft.names, draft.lines))
 }

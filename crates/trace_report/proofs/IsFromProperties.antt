@@ -1,7 +1,5 @@
--- A text that was not read to its end: its fault is at the line whose end was not seen, and none is before
--- it.
-use Rattle.std.proofs.Common.{◌≡◌, ℕ, ◌+◌, List, [], ◌∷◌, ◌++◌, Option, Some, None, Result, Ok, Err}
-use Rattle.std.proofs.Common.{refl, sym, ap, subst, ◌∙◌, arith, ◌≤◌}
+-- Lines from a number on have no fault before it.
+use Rattle.std.proofs.Common.{ℕ, ◌+◌, List, [], ◌∷◌, Option, Some, None, Result, Ok, Err, arith, ◌≤◌}
 use Rattle.std.specs.Prelude.{IfErr}
 use Rattle.event_core.specs.declared.bounds.Limits.{Limits}
 use Rattle.event_core.specs.declared.events.Event.{Event}
@@ -9,22 +7,16 @@ use Rattle.event_core.specs.declared.replies.Refusal.{Refusal}
 use Rattle.event_core.specs.Refusal.{refusal}
 use Rattle.rapid_line.specs.Cut.{content}
 use Rattle.rapid_text.specs.declared.causes.Cause.{Cause}
-use Rattle.rapid_text.specs.declared.causes.Cause.TheVariants.{Read}
-use Rattle.rapid_text.specs.Cutting.{Cutting, begun, judged}
 use Rattle.rapid_text.specs.Events.{reading}
 use Rattle.rapid_text.specs.Tables.{Tables}
-use Rattle.rapid_text.specs.Feeding.{Pulled}
-use Rattle.rapid_text.specs.Taking.{Advances, cutter_place}
-use Rattle.rapid_text.specs.Texts.{after_line, judge, lines_of}
+use Rattle.rapid_text.specs.Texts.{after_line, judge}
 use Rattle.trace_report.specs.declared.faults.TraceFault.{TraceFault}
-use Rattle.trace_report.specs.declared.faults.TraceFault.TheVariants.{Text}
-use Rattle.trace_report.specs.Findings.{Trace, call_of, finding, finding_after, refused_or}
-use Rattle.trace_report.specs.Judging.{IsTruncatedAt, Takes, line_of}
-use Rattle.rapid_text.proofs.TakingProperties.{truncates}
+use Rattle.trace_report.specs.Findings.{Trace, call_of, finding_after, refused_or}
+use Rattle.trace_report.specs.Judging.{line_of}
 use Rattle.trace_report.proofs.FindingAfterProperties.{with_line}
 
 -- no fault before line n
-abbrev IsFrom : ℕ → Result Trace TraceFault → Type 0
+abbrev pub IsFrom : ℕ → Result Trace TraceFault → Type 0
 IsFrom n found = IfErr found (λ f. n ≤ line_of f)
 
 from_next : (n : ℕ) (found : Result Trace TraceFault) → IsFrom (n + 1) found → IsFrom n found
@@ -32,7 +24,7 @@ from_next n (Ok t) later = tt
 from_next n (Err f) later = omega (arith, later)
 
 -- lines from number n on have no fault before line n
-from_line : (m : Limits) (log : List Event) (lines : List (List ℕ)) (t : Tables) (n : ℕ)
+pub from_line : (m : Limits) (log : List Event) (lines : List (List ℕ)) (t : Tables) (n : ℕ)
     → IsFrom n (finding_after m log (judge lines t n))
 from_line m log [] t n = tt
 from_line m log (l ∷ ls) t n =
@@ -51,22 +43,3 @@ from_line m log (l ∷ ls) t n =
     go (Err cause) later = omega arith
     go (Ok (None, u)) later = later log u
     go (Ok (Some e, u)) later = refused e u (refusal m log (call_of e)) later
-
--- a text of which some bytes came and were taken, where the reading stopped
-pub truncated_text : {m : Limits} {A B : Limits → List Event → Type 0} {left rest : Option (List ℕ)}
-    {turns : ℕ} {So Why : List ℕ → Type 0} {s t : Cutting} → s ≡ begun m
-    → (p : Pulled left rest turns (λ bytes. So bytes × Why bytes)) → Takes A B s p.bytes [] t → A m []
-    → IsTruncatedAt m left rest Why (Text (record { line = t.unfinished; cause = Read }))
-unfolding finding
-truncated_text {m} {left = left} {rest = rest} {Why = Why} {s = s} {t = t} is p takes first =
-    let on = takes.goes_on m [] first in
-    record {
-      line = t.unfinished;
-      at = refl;
-      stops = truncates left rest Why (cutter_place t) _ p.bytes p.came p.so.1
-          (subst (λ (c : Cutting). Advances (cutter_place c) p.bytes [] (cutter_place t)) is takes.advances)
-          (λ more. subst (λ (found : Result Trace TraceFault). IsFrom t.unfinished found)
-          (sym (ap (λ (c : Cutting). finding_after m [] (judged c (p.bytes ++ more))) (sym is)
-          ∙ on.same more))
-          (from_line m on.longer (lines_of (t.kept ++ more)) t.names t.unfinished));
-    }

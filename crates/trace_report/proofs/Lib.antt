@@ -6,8 +6,7 @@ pub mod Values
 pub mod FirstRefused
 pub mod FindingProperties
 pub mod TellsTextProperties
-pub mod TakesProperties
-pub mod FeedLaws
-pub mod EndsLegalProperties
+pub mod JudgesProperties
+pub mod IsFromProperties
 pub mod WholeTexts
-pub mod TruncatedTexts
+pub mod FeedLaws

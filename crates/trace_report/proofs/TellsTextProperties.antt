@@ -1,6 +1,6 @@
 -- What an answer tells of a finding.
 use Rattle.std.proofs.Common.{◌≡◌, ◌≢◌, ◌⊎◌, inl, inr, ℕ, List, Option, Some, None, Result, Ok, Err, Bool}
-use Rattle.std.proofs.Common.{true, false, length, refl, sym, ap, ap₂, subst, ◌∙◌, arith}
+use Rattle.std.proofs.Common.{true, false, length, refl, sym, ap, subst, ◌∙◌, arith}
 use Rattle.std.specs.Prelude.{IfSome}
 use Rattle.std.specs.Io.KnownBytes.{Appends}
 use Rattle.std.proofs.lemmas.Option.{slice_get_within}
@@ -111,15 +111,14 @@ fault_told old new {f = f} {answer = answer} finds tells =
     (record { text = fault_text f; tells = (tells.0, refl); written = tells.2 })
 
 pub trace_tells : {m : Limits} {left old new : Option (List ℕ)} {After : List Event → Type 0}
-    {names told_names : Tables} {log : List Event} {answer : Result Summary ReplayFault}
-    → FindsTrace m left After names → ((found : List Event) → After found → log ≡ found) → told_names ≡ names
-    → Told old new (Ok (record { names = told_names; log = log })) answer → TellsText m left old new answer
-trace_tells {old = old} {new = new} {answer = answer} f is named tells = record {
+    {names : Tables} {log : List Event} {answer : Result Summary ReplayFault}
+    → FindsTrace m left After names → ((found : List Event) → After found → log ≡ found)
+    → Told old new (Ok (record { names = names; log = log })) answer → TellsText m left old new answer
+trace_tells {old = old} {new = new} {names} {answer = answer} f is tells = record {
   text = f.text;
   is_left = f.is_left;
   holds = subst (λ (found : Result Trace TraceFault). Told old new found answer)
-      (ap₂ (λ (t : Tables) (l : List Event). Ok (record { names = t; log = l })) named (is f.log f.after)
-      ∙ sym f.finds)
+      (ap (λ (l : List Event). Ok (record { names = names; log = l })) (is f.log f.after) ∙ sym f.finds)
       tells;
 }
 

@@ -1,117 +1,89 @@
--- A text that was pulled whole, and what it comes to.
-use Rattle.std.proofs.Common.{◌≡◌, ℕ, List, [], ◌++◌, Option, Some, None}
-use Rattle.std.proofs.Common.{append-nil, refl, sym, ap, subst, ◌∙◌}
-use Rattle.std.specs.Prelude.{IfSome, IsSomeAnd}
-use Rattle.std.specs.Io.KnownBytes.{Consumes, IsAtEnd}
+-- What a text comes to whose lines were all judged, or up to the one at which it stops.
+use Rattle.std.proofs.Common.{◌≡◌, ℕ, ◌+◌, List, [], ◌++◌, Option, Some, None, Result, length}
+use Rattle.std.proofs.Common.{append-nil, refl, sym, ap, subst, ◌∙◌, false}
 use Rattle.event_core.specs.declared.bounds.Limits.{Limits}
 use Rattle.event_core.specs.declared.events.Event.{Event}
-use Rattle.rapid_text.specs.Cutting.{Cutting, begun, judged}
-use Rattle.rapid_text.specs.Feeding.{Pulled, Whole}
-use Rattle.rapid_text.specs.Tables.{Tables}
-use Rattle.trace_report.specs.declared.faults.TraceFault.{TraceFault}
-use Rattle.trace_report.specs.Findings.{finding, finding_after, IsReached}
-use Rattle.trace_report.specs.Judging.{Says, Takes, MeetsFault, EndsLegal, IsFed, FindsTrace, FindsFault}
+use Rattle.rapid_line.specs.Lines.{lines_of}
 use Rattle.rapid_text.specs.declared.causes.Cause.TheVariants.{Read}
+use Rattle.rapid_text.specs.Feeding.{FoldsEnded, OfText}
+use Rattle.rapid_text.specs.Folds.{FoldsAll, FaultIn}
+use Rattle.rapid_text.specs.Taking.{Truncates}
+use Rattle.rapid_text.specs.Tables.{Tables, no_names}
+use Rattle.rapid_text.specs.Texts.{judge}
+use Rattle.trace_report.specs.declared.faults.TraceFault.{TraceFault}
 use Rattle.trace_report.specs.declared.faults.TraceFault.TheVariants.{Text}
+use Rattle.trace_report.specs.Findings.{Trace, finding, finding_after}
+use Rattle.trace_report.specs.Judging.{Says, FindsTrace, FindsFault, IsTruncatedAt, is_read_fault}
 use Rattle.trace_report.proofs.AreNamedProperties.{nothing_named}
-
--- the bytes up to the end are the text that was left
-all_left : (left rest : Option (List ℕ)) (bytes : List ℕ) → Consumes left rest bytes → IsAtEnd rest
-    → IfSome left (λ whole. bytes ≡ whole)
-all_left None rest bytes came ended = tt
-all_left (Some text) None bytes came ended = absurd came
-all_left (Some text) (Some rest) bytes came ended =
-    sym (came ∙ ap (λ (t : List ℕ). bytes ++ t) ended ∙ append-nil bytes)
-
--- the bytes begin the text that was left, where it is known
-record Begins (left : Option (List ℕ)) (bytes : List ℕ) : Type 0 where
-  more : List ℕ
-  is_left : IfSome left (λ whole. bytes ++ more ≡ whole)
-
-begins : (left rest : Option (List ℕ)) (bytes : List ℕ) → Consumes left rest bytes → Begins left bytes
-begins None rest bytes came = record { more = []; is_left = tt }
-begins (Some text) None bytes came = absurd came
-begins (Some text) (Some rest) bytes came = record { more = rest; is_left = sym came }
-
--- ---- what was taken of a text, from its first byte and by a judge that is before any event
-
--- all of it
-pub taken_whole : {m : Limits} {A B : Limits → List Event → Type 0} {left rest : Option (List ℕ)} {turns : ℕ}
-    {So : List ℕ → Type 0} {s t : Cutting} → s ≡ begun m → (w : Whole left rest turns So)
-    → Takes A B s w.pulled.bytes [] t → A m [] → IsFed m left (B m) t
-unfolding finding
-taken_whole {m = m} {left = left} {rest = rest} {s = s} is w takes first =
-    let bytes = w.pulled.bytes in
-    let on = takes.goes_on m [] first in
-    record {
-      text = bytes;
-      is_left = all_left left rest bytes w.pulled.came w.ended;
-      log = on.longer;
-      after = on.after;
-      named = on.named (nothing_named s.names);
-      same = ap (λ (c : Cutting). finding_after m [] (judged c bytes)) (sym is)
-          ∙ ap (λ (text : List ℕ). finding_after m [] (judged s text)) (sym (append-nil bytes))
-          ∙ on.same [];
-      reached = λ f h. subst (λ (text : List ℕ). IsReached m [] (judged (begun m) text) f)
-          (append-nil bytes)
-          (subst (λ (c : Cutting). IsReached m [] (judged c (bytes ++ [])) f) is (on.reached [] f h));
-    }
-
--- what came up to a fault
-pub stop_found : {m : Limits} (A : Limits → List Event → Type 0) {left rest : Option (List ℕ)} {turns : ℕ}
-    {So : List ℕ → Type 0} {s : Cutting} (o : Option TraceFault) → s ≡ begun m
-    → (p : Pulled left rest turns So) → IsSomeAnd o (MeetsFault A s p.bytes) → A m []
-    → IfSome o (FindsFault m left)
-unfolding finding
-stop_found A None is p stops first = absurd stops
-stop_found {m = m} A {left = left} {rest = rest} (Some f) is p stops first =
-    let b = begins left rest p.bytes p.came in
-    let says = subst (λ (c : Cutting). Says m [] (judged c (p.bytes ++ b.more)) f) is
-    (stops.says m [] first b.more) in
-    record { text = p.bytes ++ b.more; is_left = b.is_left; finds = says.finds; reached = says.reached }
-
--- ---- what it comes to
-
-pub trace_is_found : {m : Limits} {left : Option (List ℕ)} {B C : List Event → Type 0} {s : Cutting}
-    {names : Tables} → IsFed m left B s → ((log : List Event) → B log → EndsLegal m C s log names)
-    → FindsTrace m left C names
-trace_is_found f ends =
-    let e = ends f.log f.after in
-    record {
-      text = f.text;
-      is_left = f.is_left;
-      log = e.longer;
-      after = e.after;
-      named = e.named f.named;
-      finds = f.same ∙ e.finds;
-    }
-
--- the fault that stood, or the one at the end
-pub end_is_found : {m : Limits} {left : Option (List ℕ)} {B : List Event → Type 0} {s : Cutting}
-    (o : Option TraceFault) {f : TraceFault} → (o ≡ None → IsFed m left B s)
-    → IfSome o (FindsFault m left)
-    → (o ≡ None → (log : List Event) → B log → Says m log (judged s []) f)
-    → IfSome o (λ g. f ≡ g) → FindsFault m left f
-end_is_found None {f = f} fed stood at_end same =
-    let is = fed refl in
-    let says = at_end refl is.log is.after in
-    record {
-      text = is.text;
-      is_left = is.is_left;
-      finds = λ g. is.same ∙ says.finds g;
-      reached = λ out. is.reached f (says.reached out);
-    }
-end_is_found {m} {left} (Some h) fed stood at_end same =
-    subst (λ (k : TraceFault). FindsFault m left k) (sym same) stood
+use Rattle.trace_report.proofs.JudgesProperties.{Step, Stop, lines_go_on, fault_says, stops_whole}
+use Rattle.trace_report.proofs.IsFromProperties.{IsFrom, from_line}
 
 -- a read that failed says nothing of the text
-pub cut_says_nothing : {m : Limits} {left rest : Option (List ℕ)} {turns : ℕ} {So : List ℕ → Type 0} {n : ℕ}
-    → Pulled left rest turns So → FindsFault m left (Text (record { line = n; cause = Read }))
-cut_says_nothing {left = left} {rest = rest} p =
-    let b = begins left rest p.bytes p.came in
-    record {
-      text = p.bytes ++ b.more;
-      is_left = b.is_left;
-      finds = λ g. absurd (cc);
-      reached = λ out. absurd (cc);
-    }
+pub cut_says_nothing : (m : Limits) (left : Option (List ℕ)) (n : ℕ)
+    → FindsFault m left (Text (record { line = n; cause = Read }))
+cut_says_nothing m None n =
+    record { text = []; is_left = tt; finds = λ g. absurd (cc); reached = λ out. absurd (cc) }
+cut_says_nothing m (Some text) n =
+    record { text = text; is_left = refl; finds = λ g. absurd (cc); reached = λ out. absurd (cc) }
+
+module _ {S : Type 0} (names : S → Tables) (After : S → Limits → List Event → Type 0) (m : Limits) (s : S)
+    (first : names s ≡ no_names m) (begins : After s m []) where
+  pub trace_found : {left : Option (List ℕ)} (t : S)
+      → OfText left (λ text. FoldsAll (Step names After) s text t) → FindsTrace m left (After t m) (names t)
+  unfolding finding
+  trace_found t h =
+      let lines = lines_of h.text in
+      let on = lines_go_on names After m 1 (1 + length lines) s t lines [] h.holds refl begins in
+      record {
+        text = h.text;
+        is_left = h.is_left;
+        log = on.longer;
+        after = on.after;
+        named = on.named (nothing_named (names s));
+        finds = ap (λ (u : Tables). finding_after m [] (judge lines u 1)) (sym first)
+            ∙ ap (λ (ls : List (List ℕ)). finding_after m [] (judge ls (names s) 1)) (sym (append-nil lines))
+            ∙ on.same [];
+      }
+
+  pub fault_found : {left : Option (List ℕ)} (f : TraceFault)
+      → OfText left (λ text. FaultIn (Step names After) (Stop names After) s text f) → FindsFault m left f
+  unfolding finding
+  fault_found f h =
+      let says = subst (λ (u : Tables). Says m [] (judge (lines_of h.text) u 1) f) first
+      (fault_says names After m 1 s (lines_of h.text) f [] h.holds begins) in
+      record { text = h.text; is_left = h.is_left; finds = says.finds; reached = says.reached }
+
+  -- it is no fault of a read
+  pub fault_whole : {left : Option (List ℕ)} (f : TraceFault)
+      → OfText left (λ text. FaultIn (Step names After) (Stop names After) s text f)
+      → is_read_fault f ≡ false
+  fault_whole f h =
+      let k = h.holds in
+      stops_whole (After k.before) (names k.before) (1 + length k.front) k.line f k.stops
+
+  -- the text was not read to its end
+  pub truncated_text : {left rest : Option (List ℕ)} {Why : List ℕ → Type 0} (n : ℕ) (t : S)
+      → Truncates left rest Why n (λ came. FoldsEnded (Step names After) s came n t)
+      → IsTruncatedAt m left rest Why (Text (record { line = n; cause = Read }))
+  unfolding finding
+  truncated_text n t h =
+      let so = h.so in
+      let on = lines_go_on names After m 1 n s t so.ended [] so.folds so.next begins in
+      record {
+        line = n;
+        at = refl;
+        stops = record {
+          came = h.came;
+          bytes = h.bytes;
+          why = h.why;
+          at = h.at;
+          short = h.short;
+          so = λ more.
+              let later = so.law more in
+              subst (λ (found : Result Trace TraceFault). IsFrom n found)
+              (sym (ap (λ (u : Tables). finding_after m [] (judge (lines_of (h.came ++ more)) u 1)) (sym first)
+              ∙ ap (λ (ls : List (List ℕ)). finding_after m [] (judge ls (names s) 1)) later.1
+              ∙ on.same later.0))
+              (from_line m on.longer later.0 (names t) n);
+        };
+      }

@@ -2,6 +2,7 @@
 use Rattle.std.specs.Prelude.{◌≡◌, ℕ, List, [], ◌∷◌, ◌++◌, Option, Result, Ok, Err, codes, length}
 use Rattle.std.specs.Io.KnownBytes.{Appends}
 use Rattle.event_core.specs.declared.bounds.Limits.{Limits}
+use Rattle.rapid_text.specs.Feeding.{OfText}
 use Rattle.rapid_text.specs.Tables.{Tables}
 use Rattle.trace_report.specs.declared.faults.ReplayFault.{ReplayFault}
 use Rattle.trace_report.specs.declared.faults.ReplayFault.TheVariants.{Text, Refused, Write}
@@ -9,7 +10,7 @@ use Rattle.trace_report.specs.declared.faults.TraceFault.{TraceFault}
 use Rattle.trace_report.specs.declared.faults.TraceFault.TheVariants as found
 use Rattle.trace_report.specs.declared.counts.Counts.{Counts}
 use Rattle.trace_report.specs.Findings.{Trace, finding}
-use Rattle.trace_report.specs.Replayed.{OfText, fault_text, replay_fault}
+use Rattle.trace_report.specs.Replayed.{fault_text, replay_fault}
 use Rattle.trace_report.specs.Reports.{labelled}
 
 -- so many events, and how many names there are of each kind

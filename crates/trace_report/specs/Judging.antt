@@ -1,14 +1,12 @@
--- A text that is judged in pieces: what a piece and the end of the text do to its names, its unfinished line
--- and the log that it makes.
+-- A text that is judged line by line: what a line does to its names and to the log that it makes.
 use Rattle.std.specs.Prelude.{
   ◌≡◌,
   ℕ,
-  ◌+◌,
-  ◌<◌,
   ◌≤◌,
   ◌⊎◌,
   List,
   [],
+  ◌∷◌,
   ◌++◌,
   Bool,
   true,
@@ -19,7 +17,6 @@ use Rattle.std.specs.Prelude.{
   Ok,
   Err,
   Result,
-  length,
   OnOk,
   IfErr,
   IfSome,
@@ -28,20 +25,21 @@ use Rattle.event_core.specs.declared.bounds.Limits.{Limits}
 use Rattle.event_core.specs.declared.events.Event.{Event}
 use Rattle.event_core.specs.declared.replies.Refusal.{Refusal}
 use Rattle.event_core.specs.declared.replies.Refusal.TheVariants.{OutOfMemory}
-use Rattle.event_core.specs.Refusal.{refusal}
+use Rattle.event_core.specs.Refusal.{event_of, refusal}
 use Rattle.rapid_text.specs.declared.causes.Cause.{Cause}
 use Rattle.rapid_text.specs.declared.causes.Cause.TheVariants as causes
-use Rattle.rapid_text.specs.Cutting.{Cutting, judged, most}
-use Rattle.rapid_text.specs.Tables.{Tables, no_names}
-use Rattle.rapid_text.specs.Taking.{Advances, Truncates, cutter_place}
+use Rattle.rapid_text.specs.declared.causes.TextFault.{TextFault}
+use Rattle.rapid_text.specs.Events.{content, reading, Fails, HasEvent, IsOfNames}
+use Rattle.rapid_text.specs.Feeding.{OfText, WithinTurns}
+use Rattle.rapid_text.specs.Tables.{Tables, TablesGrow, no_names}
+use Rattle.rapid_text.specs.Taking.{Truncates}
 use Rattle.rapid_text.specs.Texts.{Judgement, judgement}
-use Rattle.rapid_text.specs.Feeding.{WithinTurns}
 use Rattle.rapid_text.specs.Turns.{IsCutShort, PulledWithin}
 use Rattle.trace_report.specs.declared.faults.ReplayFault.{ReplayFault}
 use Rattle.trace_report.specs.declared.faults.TraceFault.{TraceFault}
 use Rattle.trace_report.specs.declared.faults.TraceFault.TheVariants.{Text, Refused}
 use Rattle.trace_report.specs.Findings.{call_of, finding, finding_after, IsReached}
-use Rattle.trace_report.specs.Replayed.{gives_up, IfFound, OfText}
+use Rattle.trace_report.specs.Replayed.{gives_up, IfFound}
 use Rattle.trace_report.specs.Reports.{AreNamed}
 
 -- why an event was not accepted: it is refused, or memory ran out and it is not
@@ -72,60 +70,47 @@ pub record Says (m : Limits) (log : List Event) (j : Judgement) (f : TraceFault)
   pub finds : gives_up f ≡ false → finding_after m log j ≡ Err f
   pub reached : RanOut f → IsReached m log j f
 
--- ---- one piece
+-- ---- a line
 
--- the judge is as after a longer log. Whatever follows the bytes, the text comes to the same from this log on
--- as what is still to be judged does from the longer one.
-pub record GoesOn (m : Limits) (After : List Event → Type 0) (old : Cutting) (log : List Event)
-    (bytes rest : List ℕ) (new : Cutting) : Type 0 where
-  pub longer : List Event
-  pub after : After longer
-  pub named : AreNamed old.names log → AreNamed new.names longer
-  pub same : (more : List ℕ)
-      → finding_after m log (judged old (bytes ++ more)) ≡ finding_after m longer (judged new (rest ++ more))
-  pub reached : (more : List ℕ) (f : TraceFault) → IsReached m longer (judged new (rest ++ more)) f
-      → IsReached m log (judged old (bytes ++ more)) f
+-- what a judge that was as after this log does with a line: its event, if it has one, is not refused, and
+-- comes next in the log
+abbrev pub Accepts : Limits → List Event → Option Event → (List Event → Type 0) → Type 0
+Accepts m log None After = After log
+Accepts m log (Some e) After =
+    (refusal m log (call_of e) ≡ None) × After (log ++ event_of log (call_of e) ∷ [])
 
--- all bytes but the rest were taken, by a judge that was as after a log and is as after a longer one
-pub record Takes (Before After : Limits → List Event → Type 0) (old : Cutting) (bytes rest : List ℕ)
-    (new : Cutting) : Type 0 where
-  pub live : new.failed ≡ None
-  pub advances : Advances (cutter_place old) bytes rest (cutter_place new)
-  pub goes_on : (m : Limits) (log : List Event) → Before m log → GoesOn m (After m) old log bytes rest new
+-- the line was read with these names, and judged
+pub record Judges (Before After : Limits → List Event → Type 0) (names : Tables) (line : List ℕ)
+    (now : Tables) : Type 0 where
+  pub event : Option Event
+  pub reads : reading names (content line) ≡ Ok (event, now)
+  pub grows : TablesGrow names now
+  pub named : IfSome event (IsOfNames now)
+  pub accepts : (m : Limits) (log : List Event) → Before m log → Accepts m log event (After m)
 
--- the text stops with this fault, whatever follows the bytes
-pub record MeetsFault (Before : Limits → List Event → Type 0) (old : Cutting) (bytes : List ℕ)
-    (f : TraceFault) : Type 0 where
-  pub says : (m : Limits) (log : List Event) → Before m log → (more : List ℕ)
-      → Says m log (judged old (bytes ++ more)) f
-  pub read : is_read_fault f ≡ true → most < old.taken + length bytes
+-- line n has this fault, or memory ran out for the names of its event
+pub record HasFault (names : Tables) (n : ℕ) (line : List ℕ) (f : TextFault) : Type 0 where
+  pub at : f.line ≡ n
+  pub why : Fails f.cause (reading names (content line))
+  pub memory : f.cause ≡ causes.OutOfMemory → HasEvent (reading names (content line))
 
--- ---- the end
+-- the event of line n was not accepted
+pub record HasRefusal (Before : Limits → List Event → Type 0) (names : Tables) (n : ℕ) (line : List ℕ)
+    (k : ℕ) (r : Refusal) : Type 0 where
+  pub at : k ≡ n
+  pub event : Event
+  pub now : Tables
+  pub reads : reading names (content line) ≡ Ok (Some event, now)
+  pub declines : (m : Limits) (log : List Event) → Before m log → Declines m log event r
 
--- the text ended, and is legal: the judge is as after its log
-pub record EndsLegal (m : Limits) (After : List Event → Type 0) (old : Cutting) (log : List Event)
-    (names : Tables) : Type 0 where
-  pub longer : List Event
-  pub after : After longer
-  pub named : AreNamed old.names log → AreNamed names longer
-  pub finds : finding_after m log (judged old []) ≡ Ok (record { names = names; log = longer })
+-- the text stops at line n
+abbrev pub Stops : (Limits → List Event → Type 0) → Tables → ℕ → List ℕ → TraceFault → Type 0
+Stops Before names n line (Text f) = HasFault names n line f
+Stops Before names n line (Refused k r) = HasRefusal Before names n line k r
 
 -- ---- a whole text
 
--- the text that was left, where it is known, was fed whole: it comes to what its unfinished line does after
--- the log
-pub record IsFed (m : Limits) (left : Option (List ℕ)) (After : List Event → Type 0) (now : Cutting)
-    : Type 0 where
-  pub text : List ℕ
-  pub is_left : IfSome left (λ whole. text ≡ whole)
-  pub log : List Event
-  pub after : After log
-  pub named : AreNamed now.names log
-  pub same : finding m text ≡ finding_after m log (judged now [])
-  pub reached : (f : TraceFault) → IsReached m log (judged now []) f
-      → IsReached m [] (judgement (no_names m) text) f
-
--- it is a legal trace, and the judge is as after its log
+-- the text that was left is a legal trace, and the judge is as after its log
 pub record FindsTrace (m : Limits) (left : Option (List ℕ)) (After : List Event → Type 0) (names : Tables)
     : Type 0 where
   pub text : List ℕ

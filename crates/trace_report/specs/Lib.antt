@@ -5,5 +5,4 @@ pub mod Findings
 pub mod Replayed
 pub mod Replaying
 pub mod Judging
-pub mod JudgingLaws
 pub mod Checked

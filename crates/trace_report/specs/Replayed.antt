@@ -1,5 +1,5 @@
 -- What a replay writes and answers: the report of a legal trace, or the line of its first fault.
-use Rattle.std.specs.Prelude.{◌≡◌, ℕ, List, Bool, true, false, Option, Some, None, Result, Ok, Err, IfSome}
+use Rattle.std.specs.Prelude.{◌≡◌, ℕ, List, Bool, true, false, Option, Some, None, Result, Ok, Err}
 use Rattle.std.specs.Io.KnownBytes.{Appends}
 use Rattle.event_core.specs.declared.bounds.Limits.{Limits}
 use Rattle.event_core.specs.declared.replies.Refusal.{Refusal}
@@ -8,6 +8,7 @@ use Rattle.event_core.specs.declared.replies.Verdict.{Verdict}
 use Rattle.rapid_text.specs.declared.causes.Cause.{Cause}
 use Rattle.rapid_text.specs.declared.causes.Cause.TheVariants as causes
 use Rattle.rapid_text.specs.Faults.{cause_word, fault_line}
+use Rattle.rapid_text.specs.Feeding.{OfText}
 use Rattle.seq_monitor.specs.Monitored.{AreVerdicts}
 use Rattle.trace_report.specs.declared.faults.ReplayFault.{ReplayFault}
 use Rattle.trace_report.specs.declared.faults.ReplayFault.TheVariants as answers
@@ -49,12 +50,6 @@ pub record Told (old new : Option (List ℕ)) (found : Result Trace TraceFault)
   pub text : List ℕ
   pub tells : Tells found answer text
   pub written : Appends old new text
-
--- it holds of some whole text: the one that the reader had left, where it tells this
-pub record OfText (left : Option (List ℕ)) (Holds : List ℕ → Type 0) : Type 0 where
-  pub text : List ℕ
-  pub is_left : IfSome left (λ whole. text ≡ whole)
-  pub holds : Holds text
 
 -- what was written tells, together with the answer, what the text that the reader had left comes to
 abbrev pub TellsText : Limits → Option (List ℕ) → Option (List ℕ) → Option (List ℕ)

@@ -51,7 +51,7 @@ pub fn check<I: Input, O: Output>(
         Ok(text) => text,
         Err(fault) => return Err(tell_failure(writer, fault)),
     };
-    let counts = Counts::of(text.judge.len(), text.cutter.names());
+    let counts = Counts::of(text.judge.len(), &text.names);
     match counts.write(writer) {
         Ok(()) => Ok(counts),
         Err(WriteFault) => Err(ReplayFault::Write),

@@ -1,44 +1,103 @@
 //! A text that is replayed in pieces, however it is cut.
 ghost use Rattle.std.specs.Prelude.{◌≡◌, ◌≢◌, ◌⊎◌, ℕ, ◌+◌, ◌↔◌, ◌++◌, [], List, length, Err, None, Some};
-ghost use Rattle.std.specs.Prelude.{true, false, IfOk, IfErr, IfSome, IsTrue, ◌<◌};
-ghost use Rattle.rapid_text.specs.Cutting.{most};
+ghost use Rattle.std.specs.Prelude.{true, false, IfOk, IfErr, IfSome, IsTrue, OnOk, ◌<◌};
+ghost use Rattle.rapid_text.specs.Cutting.{judged, most};
 ghost use Rattle.rapid_text.specs.Taking.{Advances, cutter_place};
 ghost use Rattle.rapid_text.specs.declared.causes.Cause.TheVariants.{Read};
 ghost use Rattle.trace_report.specs.Replayed.{fault_gives_up, answer_gives_up, replay_fault, IfFound, Told};
-ghost use Rattle.trace_report.specs.Replaying.{unfed, after, ReachesIn};
-ghost use Rattle.trace_report.specs.Judging.{RanOut, is_read_fault};
+ghost use Rattle.trace_report.specs.Replaying.{unfed, after, cutting_of, EndsLegal, ReachesIn, TakesPiece};
+ghost use Rattle.trace_report.specs.Judging.{RanOut, Says, is_read_fault};
 
 use crate::faults::{ReplayFault, TraceFault};
 use crate::judged_text::JudgedText;
 use crate::summary::Summary;
 use crate::telling::{tell_failure, tell_trace};
 use event_core::{Limits, OutOfMemory};
-use rapid_text::Output;
+use rapid_line::LineCutter;
+use rapid_text::{Cause, Output, TextFault, feed_lines, finish_lines};
 use seq_monitor::Monitor;
 use std::alloc::Global;
 use std::marker::Model;
+
+/// The fault of a read that failed, at the line whose end was not seen.
+fn read_fault(lines: &LineCutter) -> TraceFault
+    ensures { result ≡ TraceFault.Text (record { line = lines.now.unfinished; cause = Read }) }
+{
+    TraceFault::Text(TextFault {
+        line: lines.unfinished(),
+        cause: Cause::Read,
+    })
+}
+
+/// Takes the lines that end in the piece, up to the first that has no event or whose event is refused.
+fn feed_piece(
+    lines: &mut LineCutter,
+    text: &mut JudgedText<Monitor>,
+    piece: &[u8],
+) -> Result<(), TraceFault>
+    ensures ok { OnOk result (TakesPiece text.old.judge.limits text.old.judge.log
+        (cutting_of text.old.names lines.old) piece.now text.new.judge.limits text.new.judge.log
+        (cutting_of text.new.names lines.new)) }
+    ensures fault { IfErr result (λ f. (more : List ℕ) → Says text.old.judge.limits text.old.judge.log
+        (judged (cutting_of text.old.names lines.old) (piece.now ++ more)) f) }
+    ensures read { IfErr result (λ f. is_read_fault f ≡ true → most < lines.old.taken + length piece.now) }
+{
+    if !lines.has_room(piece) {
+        return Err(read_fault(lines));
+    }
+    if let Err(fault) = feed_lines(lines, text, piece) {
+        return Err(fault);
+    }
+    Ok(())
+}
+
+/// Ends the text, where no fault stands: the line whose end was not seen is the last one.
+fn end_text(
+    lines: &mut LineCutter,
+    text: &mut JudgedText<Monitor>,
+    fault: Option<TraceFault>,
+) -> Result<(), TraceFault>
+    ensures ok { OnOk result (EndsLegal text.old.judge.limits text.old.judge.log
+        (cutting_of text.old.names lines.old) text.new.names text.new.judge.log) }
+    ensures fault { fault ≡ None → IfErr result (Says text.old.judge.limits text.old.judge.log
+        (judged (cutting_of text.old.names lines.old) [])) }
+    ensures whole { IfErr result (λ f. is_read_fault f ≡ true → fault ≡ Some f) }
+    ensures stands { OnOk result (fault ≡ None) }
+    ensures answered { IfErr result (λ f. IfSome fault (λ g. f ≡ g)) }
+{
+    if let Some(fault) = fault {
+        return Err(fault);
+    }
+    if let Err(fault) = finish_lines(lines, text) {
+        return Err(fault);
+    }
+    Ok(())
+}
 
 /// Replays a text that comes in pieces. It holds the names, the log, and the line whose end was not seen.
 #[derive(Drop)]
 pub struct Replayer {
     text: JudgedText<Monitor>,
+    lines: LineCutter,
+    /// The first fault.
+    fault: Option<TraceFault>,
 }
 
 impl Model for Replayer {
     ghost use Rattle.std.specs.Prelude.{◌≡◌, None};
     ghost use Rattle.trace_report.specs.Reports.{AreNamed};
-    ghost use Rattle.trace_report.specs.Replaying.{Replaying};
+    ghost use Rattle.trace_report.specs.Replaying.{Replaying, cutting_of};
 
     ghost Value = { Replaying };
 
     ghost view = { λ r. record {
-      text = r.text.cutter;
+      text = cutting_of r.text.names r.lines;
       limits = r.text.judge.limits;
       log = r.text.judge.log;
-      fault = r.text.fault;
+      fault = r.fault;
     } };
 
-    ghost invariant = { λ r. r.text.fault ≡ None → AreNamed r.text.cutter.names r.text.judge.log };
+    ghost invariant = { λ r. r.fault ≡ None → AreNamed r.text.names r.text.judge.log };
 }
 
 impl Replayer {
@@ -49,6 +108,8 @@ impl Replayer {
         let monitor = Monitor::new(alloc, limits)?;
         Ok(Replayer {
             text: JudgedText::new(alloc, limits, monitor),
+            lines: LineCutter::new(),
+            fault: None,
         })
     }
 
@@ -69,7 +130,14 @@ impl Replayer {
         ensures advances { self.new.fault ≡ None
             → Advances (cutter_place self.old.text) piece.now [] (cutter_place self.new.text) }
     {
-        self.text.feed_piece(piece)
+        if self.fault.is_some() {
+            return false;
+        }
+        if let Err(fault) = feed_piece(&mut self.lines, &mut self.text, piece) {
+            self.fault = Some(fault);
+            return false;
+        }
+        true
     }
 
     /// Stands for a read that failed, at the line whose end was not seen. It is without effect where a fault
@@ -80,7 +148,9 @@ impl Replayer {
         ensures again { self.old.fault ≢ None → self.new ≡ self.old }
         ensures log { self.new.log ≡ self.old.log }
     {
-        self.text.read_failed();
+        if self.fault.is_none() {
+            self.fault = Some(read_fault(&self.lines));
+        }
     }
 
     /// Ends the text and writes what it comes to: its report, or the one line of its first fault. Nothing is
@@ -102,12 +172,16 @@ impl Replayer {
         ensures healthy { result ≢ Err ReplayFault.Write → W.failed writer.new ≡ W.failed writer.old }
         ensures failed { result ≡ Err ReplayFault.Write → W.failed writer.new ≡ true }
     {
-        let mut text = self.text;
-        if let Err(fault) = text.end() {
+        let Replayer {
+            mut text,
+            mut lines,
+            fault,
+        } = self;
+        if let Err(fault) = end_text(&mut lines, &mut text, fault) {
             drop(text);
             return Err(tell_failure(writer, fault));
         }
-        let answer = tell_trace(writer, &text.judge, text.cutter.names());
+        let answer = tell_trace(writer, &text.judge, &text.names);
         drop(text);
         answer
     }

@@ -56,7 +56,7 @@ pub fn replay<I: Input, O: Output>(
         Ok(text) => text,
         Err(fault) => return Err(tell_failure(writer, fault)),
     };
-    let answer = tell_trace(writer, &text.judge, text.cutter.names());
+    let answer = tell_trace(writer, &text.judge, &text.names);
     drop(text);
     answer
 }

@@ -1,5 +1,5 @@
 -- What an answer is for the finding of a text.
-use Rattle.std.proofs.Common.{◌≡◌, ◌≢◌, ◌∙◌, ℕ, List, Option, Bool, true, Result, Ok, Err, ap, ap₂, refl}
+use Rattle.std.proofs.Common.{◌≡◌, ◌≢◌, ◌∙◌, ℕ, List, Option, Bool, true, Result, Ok, Err, ap, refl}
 use Rattle.std.proofs.Common.{subst, sym}
 use Rattle.event_core.specs.declared.bounds.Limits.{Limits}
 use Rattle.event_core.specs.declared.events.Event.{Event}
@@ -16,14 +16,14 @@ use Rattle.witness_report.specs.Showing.{AnswersText, HasAnswered, is_silent}
 
 -- the answer for a legal trace: the log is the one that was judged, under the same limits
 pub trace_answered : {m n : Limits} (event : Option ℕ) {left : Option (List ℕ)} (old new : Option (List ℕ))
-    {After : List Event → Type 0} {names told : Tables} (log : List Event) {answer : Result Shown ReplayFault}
+    {After : List Event → Type 0} {names : Tables} (log : List Event) {answer : Result Shown ReplayFault}
     → FindsTrace m left After names → n ≡ m → ((found : List Event) → After found → log ≡ found)
-    → told ≡ names → HasAnswered n event old new (Ok (record { names = told; log = log })) answer
+    → HasAnswered n event old new (Ok (record { names = names; log = log })) answer
     → AnswersText m event left old new answer
-trace_answered {m} {n} event {left} old new {After} {names} {told} log {answer} f same is named answers =
-    let given : Result Trace TraceFault = Ok (record { names = told; log = log }) in
-    let found = ap₂ (λ (t : Tables) (l : List Event). Ok (record { names = t; log = l })) named
-    (is f.log f.after) ∙ sym f.finds in
+trace_answered {m} {n} event {left} old new {After} {names} log {answer} f same is answers =
+    let given : Result Trace TraceFault = Ok (record { names = names; log = log }) in
+    let found = ap (λ (l : List Event). Ok (record { names = names; log = l })) (is f.log f.after)
+    ∙ sym f.finds in
     record {
       text = f.text;
       is_left = f.is_left;

@@ -2,11 +2,12 @@
 use Rattle.std.specs.Prelude.{◌≡◌, ℕ, List, [], Bool, true, false, Option, Some, None, Result, Ok, Err}
 use Rattle.std.specs.Io.KnownBytes.{Appends}
 use Rattle.event_core.specs.declared.bounds.Limits.{Limits}
+use Rattle.rapid_text.specs.Feeding.{OfText}
 use Rattle.trace_report.specs.declared.faults.ReplayFault.{ReplayFault}
 use Rattle.trace_report.specs.declared.faults.ReplayFault.TheVariants as answers
 use Rattle.trace_report.specs.declared.faults.TraceFault.{TraceFault}
 use Rattle.trace_report.specs.Findings.{Trace, finding}
-use Rattle.trace_report.specs.Replayed.{OfText, fault_text, replay_fault, says_nothing}
+use Rattle.trace_report.specs.Replayed.{fault_text, replay_fault, says_nothing}
 use Rattle.witness_report.specs.declared.shown.Shown.{Shown}
 use Rattle.witness_report.specs.declared.shown.Shown.TheVariants.{Witness, NoWitness, NoRace, Pairs}
 use Rattle.witness_report.specs.declared.shown.Shown.TheVariants.{OutOfMemory}

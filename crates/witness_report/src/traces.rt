@@ -84,7 +84,7 @@ pub fn show_trace<I: Input, O: Output>(
         Ok(text) => text,
         Err(fault) => return Err(tell_failure(writer, fault)),
     };
-    let shown = show(alloc, writer, &text.judge, text.cutter.names(), event);
+    let shown = show(alloc, writer, &text.judge, &text.names, event);
     drop(text);
     shown
 }

@@ -1,7 +1,4 @@
-use Rattle.std.proofs.Common.{ap, ◌∙◌}
-use Rattle.rapid_text.specs.Tables.{Tables}
 use Rattle.trace_report.specs.declared.counts.Counts.{Counts}
-use Rattle.trace_report.specs.Checked.{counts_of}
 use Rattle.trace_report.specs.Judging.{RanOut, ReachesLine}
 use Rattle.trace_report.proofs.TellsTextProperties.{fault_checks, fault_read, found_reached, if_found}
 use Rattle.trace_report.proofs.TellsTextProperties.{trace_checks}
@@ -11,8 +8,7 @@ pub returns-in-Ok-write-clause-checks : goal.returns-in-Ok-write-clause-checks
 returns-in-Ok-write-clause-checks g c _ =
     trace_checks (g.O.Output.written c.args.writer.now) (g.O.Output.written c.write.new.writer)
     c.in-Ok.ensures.trace (λ log after. c.len.ensures.count log after.1)
-    (c.of-counts.ensures ∙ ap (λ (t : Tables). counts_of c.len.result t) c.names.ensures)
-    c.in-Ok-write.ensures.ok
+    c.of-counts.ensures c.in-Ok-write.ensures.ok
 
 pub returns-in-Err-clause-checks : goal.returns-in-Err-clause-checks
 returns-in-Err-clause-checks g c says =

@@ -1,6 +1,5 @@
 use Rattle.std.proofs.Common.{◌≡◌, ◌⊎◌, List, inl, sym, subst}
 use Rattle.event_core.specs.declared.events.Event.{Event}
-use Rattle.rapid_text.specs.Tables.{Tables}
 use Rattle.trace_report.specs.declared.summary.Summary.{Summary}
 use Rattle.trace_report.specs.Judging.{RanOut, ReachesLine, line_of}
 use Rattle.trace_report.specs.Reports.{AreNamed}
@@ -13,13 +12,12 @@ tell_trace-answer-requires g c =
     let text = c.in-Ok-judge_text.text in
     let found = c.in-Ok-judge_text.ensures.trace in
     record {
-      named = subst (λ (t : Tables). AreNamed t text.judge.log) (sym c.names.ensures)
-          (subst (λ (l : List Event). AreNamed text.cutter.names l) (sym found.after.1) found.named);
+      named = subst (λ (l : List Event). AreNamed text.names l) (sym found.after.1) found.named;
     }
 
 pub returns-clause-tells : goal.returns-clause-tells
 returns-clause-tells g c says =
-    trace_tells c.in-Ok-judge_text.ensures.trace (λ log a. a.1) c.names.ensures
+    trace_tells c.in-Ok-judge_text.ensures.trace (λ log a. a.1)
     (c.tell_trace-answer.ensures.tells says)
 
 pub returns-in-Err-clause-tells : goal.returns-in-Err-clause-tells

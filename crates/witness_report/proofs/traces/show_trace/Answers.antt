@@ -1,6 +1,5 @@
 use Rattle.std.proofs.Common.{List, subst, sym}
 use Rattle.event_core.specs.declared.events.Event.{Event}
-use Rattle.rapid_text.specs.Tables.{Tables}
 use Rattle.trace_report.specs.Reports.{AreNamed}
 use Rattle.trace_report.proofs.TellsTextProperties.{fault_read}
 use Rattle.witness_report.specs.declared.shown.Shown.{Shown}
@@ -12,8 +11,7 @@ show-shown-requires g c =
     let text = c.in-Ok-judge_text.text in
     let found = c.in-Ok-judge_text.ensures.trace in
     record {
-      named = subst (λ (t : Tables). AreNamed t text.judge.log) (sym c.names.ensures)
-          (subst (λ (l : List Event). AreNamed text.cutter.names l) (sym found.after.1) found.named);
+      named = subst (λ (l : List Event). AreNamed text.names l) (sym found.after.1) found.named;
     }
 
 pub returns-in-Err-clause-answers : goal.returns-in-Err-clause-answers
@@ -31,4 +29,4 @@ returns-clause-answers g c says =
     let found = c.in-Ok-judge_text.ensures.trace in
     trace_answered c.args.event (g.O.Output.written c.args.writer.now)
     (g.O.Output.written c.show-shown.new.writer) c.in-Ok-judge_text.text.judge.log found found.after.0
-    (λ log a. a.1) c.names.ensures (c.show-shown.ensures.answers says)
+    (λ log a. a.1) (c.show-shown.ensures.answers says)

@@ -14,7 +14,7 @@ invariant_of-result g c =
 pub returns-in-Err-clause-fault : goal.returns-in-Err-clause-fault
 returns-in-Err-clause-fault g c =
     let reader = c.read_lines.new.reader in
-    incomplete_fault c.args.limits (g.I.Input.left c.args.reader.now) (g.I.Input.left reader) c.args.turns
+    incomplete_fault c.args.limits (g.I.Input.left c.args.reader.now) (g.I.Input.left reader)
     (IsCutShort c.args.turns (g.I.Input.failed reader) (g.I.Input.pulls c.args.reader.now)
     (g.I.Input.pulls reader)) (record { names = c.in_ok-names.names; lines = c.in_ok-names.lines.items })
     c.in-Err.fault c.in_ok-names.ensures.ok
