@@ -13,7 +13,7 @@ use test_doubles::rows;
 use test_logs::{ACCESS_BEFORE_CONFLICT, T0, T1, THREE_STORES, X, call_at, count_lines};
 
 /// What a case shows, a log by three threads, of each event how many events of another log's thread 0 are
-/// ordered before it, and the indices of events that race, with those of the earlier ones that they race with.
+/// ordered before it, and the indices of events that race, with those of the events that they race with.
 type Case = (
     &'static str,
     &'static str,

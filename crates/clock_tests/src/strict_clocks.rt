@@ -30,19 +30,23 @@ struct Case {
     strict: &'static [(usize, ThreadId, [u64; 3])],
     /// The thread of the last event, and how many are below it.
     last: (ThreadId, [u64; 3]),
-    /// After so many events an access meets releases.
-    met: &'static [(usize, Access, &'static [Release])],
+    met: &'static [Met],
 }
 
-/// The thread, a lock that it holds, the variable, and the kind of the access.
-type Access = (ThreadId, LockId, VarId, AccessKind);
-
-/// Its thread, and of each thread how many events happened before it, which is one of them.
-type Release = (ThreadId, [u64; 3]);
+/// After so many events, the thread's access under the lock to the variable meets releases: of each its
+/// thread, and of each thread how many events happened before it, which is one of them.
+type Met = (
+    usize,
+    ThreadId,
+    LockId,
+    VarId,
+    AccessKind,
+    &'static [(ThreadId, [u64; 3])],
+);
 
 const CASES: &[Case] = rows! {
-    // T1's load takes the release of m, T0's fifth event, and with it the acquire of T0's section on l. So T1's
-    // release of l takes T0's release of l, its seventh event.
+    // T1's load takes the release of m, T0's fifth event, and with it the acquire of T0's section on l. So
+    // T1's release of l takes T0's release of l, its seventh event.
     Case {
         name: "rule (b) adds the earlier release at the later one",
         text: NESTED_SECTIONS,
@@ -50,16 +54,16 @@ const CASES: &[Case] = rows! {
         last: (T1, [7, 6, 0]),
         // T1 has acquired m. T0's store to x is in the section on m that T0's fifth event ended.
         met: rows! {
-            8, (T1, M, X, Read), &[(T0, [5, 0, 0])];
-            8, (T1, M, X, Write), &[(T0, [5, 0, 0])];
+            8, T1, M, X, Read, &[(T0, [5, 0, 0])];
+            8, T1, M, X, Write, &[(T0, [5, 0, 0])];
             // its own, and another variable
-            8, (T0, M, X, Write), &[];
-            8, (T1, M, Y, Write), &[];
+            8, T0, M, X, Write, &[];
+            8, T1, M, Y, Write, &[];
         },
     };
-    // T1's load takes T0's release of m, and with it the acquire of T0's first section on l. The lock k brings
-    // that to T0. So T0's second release of l takes the first, T0's ninth event, and the three events of T2
-    // that happen before it.
+    // T1's load takes T0's release of m, and with it the acquire of T0's first section on l. The lock k
+    // brings that to T0. So T0's second release of l takes the first, T0's ninth event, and the three events
+    // of T2 that happen before it.
     Case {
         name: "rule (b) orders the releases of one thread",
         text: RELEASES_OF_ONE_THREAD,
@@ -68,8 +72,8 @@ const CASES: &[Case] = rows! {
         // A store meets the newest store and the newest load. On m T0's section with a store to x ended at
         // T0's sixth event, and T1's with a load of x at T1's third, before which T0's six happened.
         met: rows! {
-            15, (T2, M, X, Read), &[(T0, [6, 0, 0])];
-            15, (T2, M, X, Write), &[(T0, [6, 0, 0]), (T1, [6, 3, 0])];
+            15, T2, M, X, Read, &[(T0, [6, 0, 0])];
+            15, T2, M, X, Write, &[(T0, [6, 0, 0]), (T1, [6, 3, 0])];
         },
     };
     // The section on l ends before the store to y, and the section on k after it.
@@ -83,9 +87,9 @@ const CASES: &[Case] = rows! {
         met: &[],
     };
     // T0's sections on l and on m overlap, and the store to x is in the first alone. So by rule (a) T1's load
-    // of x takes T0's release of l, its fifth event, and no more. T0's acquire of m, its fourth event, happens
-    // before that release, so it strictly precedes the load, which is in T1's section on m. So by rule (b)
-    // T1's release of m takes T0's release of m, its seventh event. Its release of l does not.
+    // of x takes T0's release of l, its fifth event, and no more. T0's acquire of m, its fourth event,
+    // happens before that release, so it strictly precedes the load, which is in T1's section on m. So by
+    // rule (b) T1's release of m takes T0's release of m, its seventh event. Its release of l does not.
     Case {
         name: "rule (b) orders the releases of overlapping sections",
         text: "T0|fork(T1)|1\nT0|acq(l)|2\nT0|w(x)|3\nT0|acq(m)|4\nT0|rel(l)|5\nT0|w(y)|6\nT0|rel(m)|7\n\
@@ -161,30 +165,20 @@ fn expect_below(rt: &impl Abort, clocks: &WcpClocks, case: &Case)
     ];
     expect(rt, &(case.name, "below"), below, wanted);
     let clock = clocks.clock(thread);
-    expect(
-        rt,
-        &(case.name, "clock"),
-        [clock.at(T0), clock.at(T1), clock.at(T2)],
-        wanted,
-    );
+    let counted = [clock.at(T0), clock.at(T1), clock.at(T2)];
+    expect(rt, &(case.name, "clock"), counted, wanted);
 }
 
-// The access meets the releases.
-fn expect_met(
-    rt: &impl Abort,
-    alloc: Global,
-    clocks: &WcpClocks,
-    access: &Access,
-    wanted: &[Release],
-)
+// The access meets its releases.
+fn expect_met(rt: &impl Abort, alloc: Global, clocks: &WcpClocks, name: &str, met: &Met)
     requires { width_of clocks.now ≡ 3 }
 {
-    let (thread, lock, var, kind) = *access;
+    let (_after, thread, lock, var, kind, wanted) = *met;
     let mut sources = clocks.sources(thread, lock, var, kind);
     for row in wanted {
         let release = sources.next().expect(rt, "a release");
         let came = (release.by(), numbers_of(rt, alloc, &release));
-        expect(rt, access, came, *row);
+        expect(rt, &(name, thread, var, kind), came, *row);
     }
     assert!(rt; sources.next().is_none());
     drop(sources);
@@ -217,15 +211,11 @@ fn look(
         clocks.strict(thread, T1),
         clocks.strict(thread, T2),
     ];
-    expect(
-        rt,
-        &(case.name, number),
-        strict,
-        strict_numbers(case, thread, number),
-    );
-    for (after, access, releases) in case.met {
-        if *after == number {
-            expect_met(rt, alloc, clocks, access, releases);
+    let wanted = strict_numbers(case, thread, number);
+    expect(rt, &(case.name, number), strict, wanted);
+    for met in case.met {
+        if met.0 == number {
+            expect_met(rt, alloc, clocks, case.name, met);
         }
     }
 }
