@@ -41,6 +41,7 @@ fn call_for(event: &Event) -> Call
 impl Judge for Monitor {
     ghost is_after = { λ monitor m log. (monitor.limits ≡ m) × (monitor.log ≡ log) };
 
+    #[inline(always)]
     fn judge(&mut self, event: &Event) -> Result<(), Refusal> {
         self.step(call_for(event))?;
         Ok(())
