@@ -47,9 +47,17 @@ impl LineSink for Draft {
     }
 
     fn take(&mut self, number: u64, line: Line<'_>) -> Result<(), ScriptFault> {
-        match add_line(&mut self.names, &mut self.lines, number, without_cr(line.bytes)) {
+        match add_line(
+            &mut self.names,
+            &mut self.lines,
+            number,
+            without_cr(line.bytes),
+        ) {
             Ok(()) => Ok(()),
-            Err(cause) => Err(ScriptFault { line: number, cause }),
+            Err(cause) => Err(ScriptFault {
+                line: number,
+                cause,
+            }),
         }
     }
 }

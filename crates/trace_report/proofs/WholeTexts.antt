@@ -1,6 +1,6 @@
 -- What a text comes to whose lines were all judged, or up to the one at which it stops.
 use Rattle.std.proofs.Common.{◌≡◌, ℕ, ◌+◌, List, [], ◌++◌, Option, Some, None, Result, length}
-use Rattle.std.proofs.Common.{append-nil, refl, sym, ap, subst, ◌∙◌, false}
+use Rattle.std.proofs.Common.{append-nil, refl, sym, ap, subst, ◌∙◌, true}
 use Rattle.event_core.specs.declared.bounds.Limits.{Limits}
 use Rattle.event_core.specs.declared.events.Event.{Event}
 use Rattle.rapid_line.specs.Lines.{lines_of}
@@ -54,12 +54,13 @@ module _ {S : Type 0} (names : S → Tables) (After : S → Limits → List Even
       record { text = h.text; is_left = h.is_left; finds = says.finds; reached = says.reached }
 
   -- it is no fault of a read
-  pub fault_whole : {left : Option (List ℕ)} (f : TraceFault)
+  pub fault_whole : {left rest : Option (List ℕ)} {Why : List ℕ → Type 0} (f : TraceFault)
       → OfText left (λ text. FaultIn (Step names After) (Stop names After) s text f)
-      → is_read_fault f ≡ false
-  fault_whole f h =
+      → is_read_fault f ≡ true → IsTruncatedAt m left rest Why f
+  fault_whole f h read =
       let k = h.holds in
-      stops_whole (After k.before) (names k.before) (1 + length k.front) k.line f k.stops
+      let whole = stops_whole (After k.before) (names k.before) (1 + length k.front) k.line f k.stops in
+      absurd cc
 
   -- the text was not read to its end
   pub truncated_text : {left rest : Option (List ℕ)} {Why : List ℕ → Type 0} (n : ℕ) (t : S)

@@ -13,14 +13,12 @@ returns-in-Err-clause-fault g c =
     c.in-Err.ensures.fault
 
 pub returns-in-Err-clause-truncated : goal.returns-in-Err-clause-truncated
-returns-in-Err-clause-truncated g c read =
+returns-in-Err-clause-truncated g c =
     let after = g.J.Judge.is_after in
-    let whole = fault_whole (λ (t : JudgedText g.row.J.Denot). t.names)
-    (λ (t : JudgedText g.row.J.Denot). after t.judge)
+    fault_whole (λ (t : JudgedText g.row.J.Denot). t.names) (λ (t : JudgedText g.row.J.Denot). after t.judge)
     c.args.limits c.new-text.result c.new-text.ensures.names
     (subst (λ j. after j c.args.limits []) (sym c.new-text.ensures.judge) c.requires.begins) c.in-Err.fault
-    c.in-Err.ensures.fault in
-    absurd cc
+    c.in-Err.ensures.fault
 
 pub returns-in-Some-clause-fault : goal.returns-in-Some-clause-fault
 returns-in-Some-clause-fault g c =
