@@ -48,7 +48,7 @@ use Rattle.seq_monitor.proofs.JoinsProperties.{joins_step}
 use Rattle.seq_monitor.proofs.Releases.{release_open, release_held, release_counted}
 use Rattle.seq_monitor.proofs.AreVerdictsProperties.{one_verdict_more, no_verdicts}
 
--- the log is well formed
+-- the log of a replay is well formed
 pub well : {m : Limits} {p : Parts} → IsReplay m p → WellFormed m p.log.events
 well {p = p} r = subst (λ (k : Limits). WellFormed k p.log.events) r.memory_limits r.memory.well_formed
 
@@ -158,7 +158,7 @@ index_fits {m} {p} {e = e} r next =
       r.bounds.most_events,
     )
 
--- and so has each thread
+-- before an event that is accepted each thread has fewer events than a log may have
 pub position_fits : {m : Limits} {p : Parts} {c : Call} {e : Event} (t : ThreadId) → IsReplay m p
     → IsNext m p c e → count_at p.accesses.counts t.0 < MOST_EVENTS
 unfolding events_of
@@ -170,7 +170,7 @@ position_fits {p = p} t r next =
       count_by-le-length (λ (e : Event). nat_eq e.thread.0 t.0) p.log.events,
     )
 
--- how many acquires are to be released after the call
+-- a call changes the number of open acquires as its operation does
 pub opened_after : (log : List Event) (c : Call) (old new : MemoryTables) → StandsFor log old
     → StandsFor (log ++ event_of log c ∷ []) new → meaning new ≡ after c.thread c.op c.arg (meaning old)
     → open_acquires (log ++ event_of log c ∷ []) ≡ holds_after c.op (open_acquires log)
@@ -178,7 +178,7 @@ opened_after log c old new before longer means =
     sym (ap (λ (x : Meaning). x.holds) longer.means)
     ∙ (ap (λ (x : Meaning). x.holds) means ∙ ap (λ (x : Meaning). holds_after c.op x.holds) before.means)
 
--- what each part makes of the event, which has the verdict
+-- each part has taken the event of the call, which has the verdict
 pub record HasTaken (m : Limits) (old new : Parts) (c : Call) (e : Event) (v : Verdict) : Type 0 where
   pub memory : meaning new.memory ≡ after c.thread c.op c.arg (meaning old.memory)
   pub memory_limits : new.memory.limits ≡ old.memory.limits
@@ -192,7 +192,7 @@ pub record HasTaken (m : Limits) (old new : Parts) (c : Call) (e : Event) (v : V
   pub event_slots : slots_for (open_acquires old.log.events) c.op ≤ new.log.room + 1
   pub verdict_slots : slots_for (open_acquires old.log.events) c.op ≤ new.verdicts.room + 1
 
--- they stand for one event more
+-- parts that have taken the next event are a replay of the log with it
 pub replay_more : {m : Limits} {old new : Parts} {c : Call} {e : Event} {v : Verdict} → IsReplay m old
     → IsNext m old c e → HasTaken m old new c e v → IsReplay m new
 replay_more {m} {old} {new} {c} {e} {v} r next taken =
@@ -214,7 +214,7 @@ replay_more {m} {old} {new} {c} {e} {v} r next taken =
       verdict_slots = omega (arith, opened, slot.kept, taken.verdict_slots);
     }
 
--- what the clocks ask of the event
+-- the next event fits the clocks
 pub clocks_ready : FitsWhereLegal → LittleWork → {m : Limits} {p : Parts} {c : Call} {e : Event}
     → IsReplay m p → IsNext m p c e → Fits e p.clocks
 clocks_ready fits little {m} {p} {e = e} r next =
@@ -223,7 +223,7 @@ clocks_ready fits little {m} {p} {e = e} r next =
     fits m log e p.clocks r.bounds next.longer stands
     (little m log e p.clocks r.bounds next.longer stands r.clocks.work)
 
--- the parts before any event
+-- parts without an event are a replay of the empty log
 pub replay_empty : (m : Limits) (p : Parts) → AreBounded m.threads m.locks m.vars m.events
     → StandsFor [] p.memory → p.memory.limits ≡ m → IsClocksReplay m [] p.clocks
     → AccessesStand [] p.accesses → p.accesses.limits ≡ m → p.log.events ≡ [] → p.verdicts.verdicts ≡ []
@@ -243,7 +243,7 @@ replay_empty m p bounds memory memory_limits clocks accesses access_limits none 
       verdict_slots = omega (arith, slots);
     }
 
--- the clocks after the event
+-- clocks that have taken the next event are a replay of the log with it
 pub clocks_more : WorkStep → {m : Limits} {old : Parts} {c : Call} {e : Event} (new : Clocks) → IsReplay m old
     → IsNext m old c e
     → ((k : Limits) (xs : List Event) → WellFormed k (xs ++ e ∷ []) → ClocksStandFor xs old.clocks
@@ -261,7 +261,7 @@ clocks_more work_step {m} {old} {e = e} new r next stands work limits =
       joins = joins_step m log e old.clocks new (well r) was.stands work was.joins;
     }
 
--- the reply's parts
+-- the index, the value and the verdict of an event are the outcome of its call
 pub is_outcome : {m : Limits} {p : Parts} {c : Call} {e : Event} (v : Verdict) (index value : ℕ)
     → IsNext m p c e → index ≡ length p.log.events → value ≡ value_of p.log.events c.op c.arg
     → IsVerdict (p.log.events ++ e ∷ []) (length p.log.events) v

@@ -41,7 +41,7 @@ allowed k m u o h =
 pub room : (n m : ℕ) → not (nat_le n m) ≡ false → n ≤ m
 room n m e = leb-true n m (not-false (nat_le n m) e)
 
--- the holder
+-- a thread that the test finds to be the holder is the holder
 pub holder_here : (o : Option ThreadId) (u : ThreadId) → not (is_holder o u) ≡ false → o ≡ Some u
 holder_here None u e = absurd (cc)
 holder_here (Some v) u e = ap Some (same_thread_id (eqb-true v.0 u.0 (not-false (nat_eq v.0 u.0) e)))
@@ -51,10 +51,11 @@ pub release_holder : (m : Meaning) (u : ThreadId) (l : LockId) → not_holder_at
     → (m.lock l.0).holder ≡ Some u
 release_holder m u l h = holder_here (m.lock l.0).holder u (when_none _ NotHolder h)
 
+-- a row that has a holder has a depth above 0, and names the holder
 pub holder_of : (r : LockRow) (u : ThreadId) → (lock_of r).holder ≡ Some u → (0 < r.depth) × (r.by ≡ u)
 holder_of r u e = let p = cond_some (nat_lt 0 r.depth) r.by u e in (ltb-true 0 r.depth p.0, p.1)
 
--- the log has room
+-- an allowed operation keeps the log and the releases to come within the limit
 pub slots_after : (k : Limits) (m : Meaning) (u : ThreadId) (o : Op) → Allowed k m u o
     → m.length + m.holds ≤ k.events
     → ((l : LockId) → o ≡ Release l → 0 < m.holds) → m.length + 1 + holds_after o m.holds ≤ k.events
@@ -64,6 +65,7 @@ slots_after k m u (Release l) a h r = let b = r l refl in omega arith
 slots_after k m u _ a h r = let b =
     room (m.length + m.holds + 1) k.events (when_none _ LogFull a.fits) in omega arith
 
+-- an acquire that is not refused leaves a place for itself and one for its release
 pub acquire_fits : (k : Limits) (m : Meaning) (l : LockId) → log_full_at k m (Acquire l) ≡ None
     → m.length + m.holds + 2 ≤ k.events
 acquire_fits k m l h = room (m.length + m.holds + 2) k.events (when_none _ LogFull h)
@@ -76,6 +78,7 @@ depth_total locks l = elim (cases_lt l (length locks)) [
       ap (λ (r : LockRow). r.depth) (get_or_past locks l blank_lock h) in omega arith)
 ]
 
+-- a lock that has a depth above 0 has a row
 pub held_within : (locks : List LockRow) (l : ℕ) → 0 < (lock_at locks l).depth → l < length locks
 held_within locks l d = elim (cases_lt l (length locks)) [
   | inl h ↦ h

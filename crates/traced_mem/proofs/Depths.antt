@@ -14,7 +14,7 @@ pub depth_if_held : (log : List Event) (l : LockId) (u : ThreadId) → holder lo
 unfolding lock_depth
 depth_if_held log l u h = ap (λ o. depth_by o log l) h
 
--- how deep, once the holder has released it once
+-- a release by the holder makes the depth less by one
 pub depth_left : (log : List Event) (e : Event) (l : LockId) → e.op ≡ Release l → holder log l ≡ Some e.thread
     → depth (log ++ e ∷ []) e.thread l ≡ lock_depth log l - 1
 depth_left log e l o h = depth_down log e l o ∙ ap (λ d. d - 1) (sym (depth_if_held log l e.thread h))

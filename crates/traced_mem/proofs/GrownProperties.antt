@@ -14,7 +14,7 @@ use Rattle.traced_mem.specs.Room.{HasRoom, IsReady, Grown}
 pub grown_none : (xs : List ThreadRow) → Grown xs xs
 grown_none xs = record { rows = refl; more = omega arith; capacity = λ u. omega arith }
 
--- growth upon growth
+-- a list that has grown twice has grown
 pub grown_more : {old mid new : List ThreadRow} → Grown old mid → Grown mid new → Grown old new
 grown_more a b = record {
   rows = b.rows ∙ a.rows;

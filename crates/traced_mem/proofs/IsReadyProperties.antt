@@ -19,7 +19,7 @@ use Rattle.traced_mem.specs.Tables.{MemoryTables, thread_at, threads_of}
 use Rattle.traced_mem.specs.Room.{IsReady, HasRoom, takes_place}
 use Rattle.traced_mem.proofs.UpdatedProperties.{updated_same, updated_other}
 
--- a write of all of a list that was lent whole
+-- a list that was lent whole, and of which all was written, is what was written
 pub given_back : {A : Type 0} {n : ℕ} {lent ys : List A} (xs : List A) → lent ≡ ys → length lent ≡ n
     → length xs ≡ length lent → take n (xs ++ drop (length xs) ys) ≡ xs
 given_back {n = n} {ys = ys} xs same len e =
@@ -75,12 +75,12 @@ step_no_more c (Acquire l) locks f u m free =
     )
 step_no_more c _ locks f u m free = omega arith
 
--- the threads after an operation that is p, where it is known what they were before
+-- the threads after an operation are known by an operation and threads that are the same
 pub threads_by : (u : ThreadId) (locks : ℕ → Lock) {p o : Op} {before now then' : ℕ → Thread} → p ≡ o
     → then' ≡ threads_after u o locks now → now ≡ before → then' ≡ threads_after u p locks before
 threads_by u locks is by was = by ∙ (λ i. threads_after u (sym is i) locks (was i))
 
--- what stays ready over a step
+-- an operation stays ready over a step that does not take its place
 pub still_ready : {old new : MemoryTables} (locks : ℕ → Lock) (c : ThreadId) (p : Op) (u : ThreadId) (o : Op)
     → takes_place c p u o ≡ false
     → length new.threads ≡ length old.threads → length new.locks ≡ length old.locks
@@ -111,7 +111,7 @@ still_ready {old = old} {new = new} locks c p u o free ts ls cs caps rows r =
     )
     room _ free h = omega arith
 
--- tables of which two are lent
+-- tables of which two are lent, and given back as they were, are the same
 pub lent_whole : {t s : MemoryTables} {threads : List ThreadRow} {locks : List LockRow} → t ≡ s
     → threads ≡ t.threads → locks ≡ t.locks → record t { threads = threads; locks = locks } ≡ s
 lent_whole {t = t} same a b = (λ i. record t { threads = a i; locks = b i }) ∙ same

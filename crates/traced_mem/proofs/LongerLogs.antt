@@ -36,7 +36,7 @@ held_snoc before (x ∷ xs) e u held =
     ∙ ap (λ b. held_after b u e e.op (held_from (before ++ x ∷ []) xs u (held_after before u x x.op held)))
     (append_assoc before (x ∷ []) xs)
 
--- an event that has nothing to do with the lock
+-- an event that neither acquires nor releases a lock keeps its depth
 pub same_depth : (log : List Event) (e : Event) (u : ThreadId) (l : LockId) → op_acquires l e.op ≡ false
     → op_releases l e.op ≡ false → depth (log ++ e ∷ []) u l ≡ depth log u l
 same_depth log e u l a r =

@@ -65,7 +65,7 @@ store_allowed k m u x h =
     ∷ fits k n 1 (omega arith) i ∷ []
     )
 
--- what follows where the answer is Ok
+-- what follows from no refusal holds where the answer is Ok
 pub on_ok : {P : Type 0} (o : Option Refusal) (r : Result (Unit {0}) Refusal) → r ≡ answer o → (o ≡ None → P)
     → OnOk r P
 on_ok {P = P} None r e f = subst (λ (x : Result (Unit {0}) Refusal). OnOk x P) (sym e) (f refl)

@@ -16,7 +16,7 @@ updated_same k x f = ap (λ b. cond b x (f k)) (eqb_refl k)
 pub updated_other : {A : Type 0} (k : ℕ) (x : A) (f : ℕ → A) (a : ℕ) → (a ≡ k → ⊥) → updated k x f a ≡ f a
 updated_other k x f a n = ap (λ b. cond b x (f a)) (ne_eqb a k n)
 
--- what is x at k, and as f elsewhere
+-- a function that has the new value at its place, and the old values elsewhere, is the changed one
 pub is_updated : {A : Type 0} (k : ℕ) (x : A) (f g : ℕ → A) → g k ≡ x
     → ((n : ℕ) → (n ≡ k → ⊥) → g n ≡ f n) → (n : ℕ) → g n ≡ updated k x f n
 is_updated k x f g here there n = elim (cases_eq n k) [
@@ -24,7 +24,7 @@ is_updated k x f g here there n = elim (cases_eq n k) [
   | inr other ↦ there n other ∙ sym (updated_other k x f n other)
 ]
 
--- the same, where g is given by that test
+-- a function that takes the new value by a test of the place is the changed one
 pub updated_if : {A : Type 0} (k : ℕ) (x : A) (f : ℕ → A) (g : Bool → ℕ → A) → g true k ≡ x
     → ((n : ℕ) → g false n ≡ f n) → (n : ℕ) → g (nat_eq k n) n ≡ updated k x f n
 updated_if k x f g here there =

@@ -46,7 +46,7 @@ without_next l x xs f =
     (Some (cond (not b) (1 + prefix_len (λ (h : LockId). not (nat_eq h.0 l.0)) xs) 0)) None) (x ∷ xs)) f
     ∙ next (prefix_len (λ (h : LockId). not (nat_eq h.0 l.0)) xs) (length xs) x xs
 
--- what a list has
+-- a list keeps all locks but the one that is left out
 pub has_without : (l y : LockId) (xs : List LockId) → (l ≡ y → ⊥) → Has l xs → Has l (without y xs)
 has_without l y [] n h = absurd (none_in h)
 has_without l y (x ∷ xs) n h = go (cases_Bool (nat_eq x.0 y.0)) h (λ k. has_without l y xs n k)

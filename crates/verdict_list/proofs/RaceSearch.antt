@@ -28,7 +28,7 @@ comparisons_rise n i rs up a b d le lt =
     let rise : (get_or rs a d).event ≤ (get_or rs b d).event = rise_between 0 n a b rs d up le lt in
     grind (arith, nat_tests)
 
--- at the place of a race of the event
+-- a search that finds a race of the event gives its verdict
 pub found : (n i p : ℕ) (rs : List Race) (r : Race) → i < length (verdicts_of n rs) → Rise 0 n rs
     → IsSearchInRange (Ok p) (length rs) → IsBinarySearchResult (compared i) rs (Ok p)
     → r ≡ get_or rs p r → slice_get (verdicts_of n rs) i ≡ Some (Racy r.with)
@@ -49,7 +49,7 @@ none_of i p rs sides q r at e =
       | inr after ↦ omega (arith, same, e, ranked _ i _ (sym (sides.1 q r after place)))
     ]
 
--- at a gap where such a race would be
+-- an event of which a search finds no race is clear
 pub absent : (n i p : ℕ) (rs : List Race) → i < length (verdicts_of n rs) → Rise 0 n rs
     → IsBinarySearchResult (compared i) rs (Err p)
     → slice_get (verdicts_of n rs) i ≡ Some Clear

@@ -9,12 +9,12 @@ use Rattle.verdict_list.specs.Judged.{races_from}
 use Rattle.verdict_list.specs.Spread.{Rise, spread}
 use Rattle.verdict_list.proofs.RiseProperties.{past_race, past_clear}
 
--- the first event is that of the first race
+-- if the first race is of the first event, this event is racy, and the others have the other races
 pub here : (j n : ℕ) (r : Race) (rs : List Race) → r.event ≡ j
     → spread j (suc n) (r ∷ rs) ≡ Racy r.with ∷ spread (j + 1) n rs
 here j n r rs same = grind (arith, nat_tests)
 
--- the first event is clear
+-- if the first race is not of the first event, this event is clear, and the others have all races
 pub later : (j n : ℕ) (r : Race) (rs : List Race) → (r.event ≡ j → ⊥)
     → spread j (suc n) (r ∷ rs) ≡ Clear ∷ spread (j + 1) n (r ∷ rs)
 later j n r rs other = grind (arith, nat_tests)
@@ -28,7 +28,7 @@ length_spread j (suc n) (r ∷ rs) = elim (cases_eq r.event j) [
   | inr other ↦ ap length (later j n r rs other) ∙ ap suc (length_spread (j + 1) n (r ∷ rs))
 ]
 
--- one more event that is clear
+-- if no race is of the last event, its verdict is clear
 pub spread_clear : (j k n : ℕ) (rs : List Race) → k ≡ j + n → Rise j k rs
     → spread j (suc n) rs ≡ spread j n rs ++ Clear ∷ []
 spread_clear j k zero [] e up = refl
@@ -45,7 +45,7 @@ spread_clear j k (suc n) (r ∷ rs) e up = elim (cases_eq r.event j) [
       ∙ sym (ap (λ vs. vs ++ Clear ∷ []) (later j n r rs other))
 ]
 
--- one more event that races
+-- if the last race is of the last event, its verdict is racy
 pub spread_racy : (j n : ℕ) (rs : List Race) (s : Race) → s.event ≡ j + n → Rise j s.event rs
     → spread j (suc n) (rs ++ s ∷ []) ≡ spread j n rs ++ Racy s.with ∷ []
 spread_racy j zero [] s e up = here j 0 s [] (omega arith)
@@ -64,7 +64,7 @@ spread_racy j (suc n) (r ∷ rs) s e up = elim (cases_eq r.event j) [
       ∙ sym (ap (λ vs. vs ++ Racy s.with ∷ []) (later j n r rs other))
 ]
 
--- the races among the verdicts are those
+-- the races among the verdicts are those that the verdicts are made of
 pub races_of_spread : (j k n : ℕ) (rs : List Race) → k ≡ j + n → Rise j k rs
     → races_from j (spread j n rs) ≡ rs
 races_of_spread j k zero [] e up = refl

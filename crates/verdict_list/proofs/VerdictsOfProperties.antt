@@ -11,17 +11,18 @@ use Rattle.verdict_list.proofs.SpreadProperties.{length_spread, spread_clear, sp
 pub length_verdicts : (n : ℕ) (rs : List Race) → length (verdicts_of n rs) ≡ n
 length_verdicts n rs = length_spread 0 n rs
 
--- one more event that is clear
+-- one more event without a race adds the verdict that it is clear
 pub clear_next : (n : ℕ) (rs : List Race) → Rise 0 n rs
     → verdicts_of (n + 1) rs ≡ verdicts_of n rs ++ Clear ∷ []
 clear_next n rs up =
     let next : n + 1 ≡ suc n = omega arith in
     ap (λ k. verdicts_of k rs) next ∙ spread_clear 0 n n rs (omega arith) up
 
+-- the races of a log are races of the log with one event more
 pub still_rise : (n : ℕ) (rs : List Race) → Rise 0 n rs → Rise 0 (n + 1) rs
 still_rise n rs up = rise_longer 0 n (n + 1) rs (omega arith) up
 
--- one more event that races
+-- one more event with a race adds the verdict that it is racy
 pub racy_next : (n i : ℕ) (rs : List Race) → Rise 0 n rs
     → verdicts_of (n + 1) (rs ++ record { event = n; with = i } ∷ []) ≡ verdicts_of n rs ++ Racy i ∷ []
 racy_next n i rs up =
@@ -29,6 +30,7 @@ racy_next n i rs up =
     let next : n + 1 ≡ suc n = omega arith in
     ap (λ k. verdicts_of k (rs ++ race ∷ [])) next ∙ spread_racy 0 n rs race (omega arith) up
 
+-- a race of the next event may join the races
 pub rise_next : (n i : ℕ) (rs : List Race) → Rise 0 n rs
     → Rise 0 (n + 1) (rs ++ record { event = n; with = i } ∷ [])
 rise_next n i rs up = rise_pushed 0 n rs (record { event = n; with = i }) (omega arith) refl up
@@ -37,5 +39,5 @@ rise_next n i rs up = rise_pushed 0 n rs (record { event = n; with = i }) (omega
 pub races_kept : (n : ℕ) (rs : List Race) → Rise 0 n rs → rs ≡ races_from 0 (verdicts_of n rs)
 races_kept n rs up = sym (races_of_spread 0 n n rs (omega arith) up)
 
--- what a list that grows asks
+-- what one event more adds to the verdicts and the races
 pub ruleset growth = (length_verdicts, clear_next, still_rise, racy_next, rise_next)
