@@ -1,9 +1,65 @@
 //! The slow judge: whether two accesses have a witness, by trying all orders.
-use crate::orders::{Order, below};
-use event_core::{Event, LockId, Op, ThreadId, VarId};
+use event_core::{Event, LockId, Op, SiteId, ThreadId, VarId};
 
-// No order has more places.
-const PLACES: usize = 8;
+// How many events an order may have.
+const MOST: usize = 8;
+
+// What stands where an order has no event.
+const NO_EVENT: Event = Event {
+    thread: ThreadId(0),
+    op: Op::Load(VarId(0)),
+    site: SiteId(0),
+    value: 0,
+};
+
+/// Some events of a log, each with its index, in an order.
+#[derive(Clone, Copy)]
+pub struct Order {
+    events: [(usize, Event); MOST],
+    count: usize,
+}
+
+impl Order {
+    /// No events.
+    pub const NONE: Order = Order {
+        events: [(0, NO_EVENT); MOST],
+        count: 0,
+    };
+
+    fn events(&self) -> &[(usize, Event)] {
+        &self.events[..self.count.min(MOST)]
+    }
+
+    /// The order with one more event at its end.
+    pub fn with(&self, index: usize, event: &Event) -> Order {
+        let mut longer = *self;
+        if longer.count < MOST {
+            longer.events[longer.count] = (index, *event);
+            longer.count += 1;
+        }
+        longer
+    }
+
+    fn has(&self, index: usize) -> bool {
+        for (other, _event) in self.events() {
+            if *other == index {
+                return true;
+            }
+        }
+        false
+    }
+}
+
+// The events before the index, in the order of the log.
+fn below(events: &[Event], index: usize) -> Order {
+    let mut order = Order::NONE;
+    for (earlier, event) in events.iter().enumerate() {
+        if earlier < index {
+            order = order.with(earlier, event);
+        }
+    }
+    order
+}
 
 /// Which orders are tried.
 #[derive(Clone, Copy, PartialEq)]
@@ -13,109 +69,76 @@ pub enum Orders {
     OfSections,
 }
 
-// Whether the operation forks the thread.
-fn forks(op: Op, thread: ThreadId) -> bool {
-    match op {
-        Op::Fork(child) => child == thread,
-        _ => false,
-    }
-}
-
-// Whether h is before k by an edge of program order.
-fn is_before(events: &[Event], h: usize, k: usize) -> bool {
-    let (Some(first), Some(second)) = (events.get(h), events.get(k)) else {
-        return false;
-    };
-    if k <= h {
-        return false;
-    }
-    let joined = match second.op {
-        Op::Join(child) => first.thread == child || forks(first.op, child),
+// Whether an edge of program order leads from the event to the later one.
+fn is_edge(first: &Event, later: &Event) -> bool {
+    let is_joined = match later.op {
+        Op::Join(child) => first.thread == child || first.op == Op::Fork(child),
         _ => false,
     };
-    first.thread == second.thread || forks(first.op, second.thread) || joined
+    first.thread == later.thread || first.op == Op::Fork(later.thread) || is_joined
 }
 
 /// Whether the order has all that is before the event in program order, and not itself.
-pub fn is_next(events: &[Event], order: &Order, event: usize) -> bool {
-    if order.has(event) {
+pub fn is_next(events: &[Event], order: &Order, index: usize) -> bool {
+    let Some(event) = events.get(index) else {
         return false;
-    }
-    for other in 0..events.len() {
-        if is_before(events, other, event) && !order.has(other) {
+    };
+    for (other, earlier) in events.iter().enumerate() {
+        if other < index && is_edge(earlier, event) && !order.has(other) {
             return false;
         }
     }
-    true
+    !order.has(index)
 }
 
 // The last event of the order that stores to the variable.
-fn last_store(events: &[Event], order: &Order, var: VarId) -> Option<usize> {
+fn last_store(order: &Order, var: VarId) -> Option<usize> {
     let mut last = None;
-    for place in 0..PLACES {
-        if let Some(event) = order.get(place) {
-            if events.get(event).is_some_and(|e| e.op == Op::Store(var)) {
-                last = Some(event);
-            }
+    for (index, event) in order.events() {
+        if event.op == Op::Store(var) {
+            last = Some(*index);
         }
     }
     last
 }
 
-// How often the thread holds the lock after the order.
-fn depth(events: &[Event], order: &Order, thread: ThreadId, lock: LockId) -> u64 {
-    let mut depth: u64 = 0;
-    for place in 0..PLACES {
-        if let Some(event) = order.get(place).and_then(|at| events.get(at)) {
-            if event.thread == thread && event.op == Op::Acquire(lock) {
-                depth = depth.saturating_add(1);
-            }
-            if event.thread == thread && event.op == Op::Release(lock) {
-                depth = depth.saturating_sub(1);
-            }
-        }
-    }
-    depth
-}
-
 // Whether no other thread holds the lock after the order.
-fn is_free_for(events: &[Event], order: &Order, thread: ThreadId, lock: LockId) -> bool {
-    for other in 0..4u32 {
-        let other = ThreadId(other);
-        if other != thread && 0 < depth(events, order, other, lock) {
-            return false;
+fn is_free_for(order: &Order, thread: ThreadId, lock: LockId) -> bool {
+    let mut depth: u64 = 0;
+    for (_index, event) in order.events() {
+        if event.thread != thread && event.op == Op::Acquire(lock) {
+            depth = depth.saturating_add(1);
+        }
+        if event.thread != thread && event.op == Op::Release(lock) {
+            depth = depth.saturating_sub(1);
         }
     }
-    true
+    depth == 0
 }
 
 // Whether the order has a later acquire of the lock.
-fn has_later(events: &[Event], order: &Order, lock: LockId, event: usize) -> bool {
-    for place in 0..PLACES {
-        if let Some(at) = order.get(place) {
-            if event < at && events.get(at).is_some_and(|e| e.op == Op::Acquire(lock)) {
-                return true;
-            }
+fn has_later(order: &Order, lock: LockId, index: usize) -> bool {
+    for (other, event) in order.events() {
+        if index < *other && event.op == Op::Acquire(lock) {
+            return true;
         }
     }
     false
 }
 
 /// Whether the event may come next in a witness.
-pub fn may_follow(events: &[Event], order: &Order, event: usize, orders: Orders) -> bool {
-    if !is_next(events, order, event) {
+pub fn may_follow(events: &[Event], order: &Order, index: usize, orders: Orders) -> bool {
+    if !is_next(events, order, index) {
         return false;
     }
-    let Some(e) = events.get(event) else {
+    let Some(event) = events.get(index) else {
         return false;
     };
-    match e.op {
-        Op::Load(var) => {
-            last_store(events, order, var) == last_store(events, &below(event), var)
-        }
+    match event.op {
+        Op::Load(var) => last_store(order, var) == last_store(&below(events, index), var),
         Op::Acquire(lock) => {
-            is_free_for(events, order, e.thread, lock)
-                && (orders == Orders::All || !has_later(events, order, lock, event))
+            is_free_for(order, event.thread, lock)
+                && (orders == Orders::All || !has_later(order, lock, index))
         }
         _ => true,
     }
@@ -136,9 +159,9 @@ pub fn has_witness(
     if more == 0 {
         return false;
     }
-    for event in 0..events.len() {
-        if event != i && event != j && may_follow(events, order, event, orders) {
-            let longer = order.with(event);
+    for (index, event) in events.iter().enumerate() {
+        if index != i && index != j && may_follow(events, order, index, orders) {
+            let longer = order.with(index, event);
             if has_witness(events, &longer, i, j, orders, more - 1) {
                 return true;
             }

@@ -11,8 +11,6 @@ mod expected;
 #[cfg(test)]
 mod judge;
 #[cfg(test)]
-mod orders;
-#[cfg(test)]
 mod random_logs;
 #[cfg(test)]
 mod recorded;

@@ -1,7 +1,6 @@
 //! Random logs: for each pair of conflicting accesses, the searcher and the judge.
 use crate::expected::expect;
-use crate::judge::{Orders, conflict, has_witness, is_next, may_follow};
-use crate::orders::Order;
+use crate::judge::{Order, Orders, conflict, has_witness, is_next, may_follow};
 use crate::recorded::Recorded;
 use event_core::{Event, LockId, Op, Roots, ThreadId, VarId};
 use std::alloc::Global;
@@ -43,27 +42,23 @@ fn fill(generator: &mut Generator, recorded: &mut Recorded) {
     }
 }
 
-/// How many pairs there were of each kind.
-#[derive(Clone, Copy)]
-struct Seen {
-    given: u32,
-    none: u32,
-}
-
 // Whether the events are a witness for both accesses, by the judge.
 fn is_witness(events: &[Event], proposed: &[u32], i: usize, j: usize) -> bool {
     let mut order = Order::NONE;
-    for event in proposed {
-        let event = *event as usize;
-        if event == i || event == j || !may_follow(events, &order, event, Orders::All) {
+    for index in proposed {
+        let index = *index as usize;
+        let Some(event) = events.get(index) else {
+            return false;
+        };
+        if index == i || index == j || !may_follow(events, &order, index, Orders::All) {
             return false;
         }
-        order = order.with(event);
+        order = order.with(index, event);
     }
     is_next(events, &order, i) && is_next(events, &order, j)
 }
 
-// Compares the searcher's answer on the pair with the judge's.
+// Compares the searcher's answer on the pair with the judge's. Answers whether it was a witness.
 fn compare(
     rt: &impl Abort,
     searcher: &mut Searcher,
@@ -71,51 +66,47 @@ fn compare(
     number: usize,
     i: usize,
     j: usize,
-    seen: &mut Seen,
-) {
-    let found = searcher
-        .witness(i as u64, j as u64)
-        .ok()
-        .expect(rt, "memory");
+) -> bool {
+    let found = searcher.witness(i as u64, j as u64).ok();
     let most = EVENTS as u32;
-    let any = has_witness(events, &Order::NONE, i, j, Orders::All, most);
-    let kept = has_witness(events, &Order::NONE, i, j, Orders::OfSections, most);
-    match found {
+    match found.expect(rt, "memory") {
         Some(witness) => {
-            seen.given = seen.given.saturating_add(1);
+            let any = has_witness(events, &Order::NONE, i, j, Orders::All, most);
             let is = is_witness(events, &witness.events, i, j);
             expect(rt, &("a witness", number, i, j), (any, is), (true, true));
+            true
         }
         None => {
-            seen.none = seen.none.saturating_add(1);
+            let kept = has_witness(events, &Order::NONE, i, j, Orders::OfSections, most);
             expect(rt, &("a witness is missed", number, i, j), kept, false);
+            false
         }
     }
 }
 
-// Compares them on all pairs of the log.
-fn compare_log(
-    rt: &impl Abort,
-    alloc: Global,
-    recorded: &Recorded,
-    number: usize,
-    seen: &mut Seen,
-) {
+// Compares them on all pairs of the log. Answers how many have a witness, and how many have none.
+fn compare_log(rt: &impl Abort, alloc: Global, recorded: &Recorded, number: usize) -> (u32, u32) {
+    let (mut given, mut none): (u32, u32) = (0, 0);
     let events = recorded.events(alloc);
     let mut searcher = recorded.searcher(alloc).ok().expect(rt, "memory");
     for (j, second) in events.iter().enumerate() {
         for (i, first) in events.iter().enumerate() {
             if i < j && conflict(first, second) {
-                compare(rt, &mut searcher, &events, number, i, j, seen);
+                if compare(rt, &mut searcher, &events, number, i, j) {
+                    given = given.saturating_add(1);
+                } else {
+                    none = none.saturating_add(1);
+                }
             }
         }
     }
+    (given, none)
 }
 
 #[test]
 fn the_searcher_and_the_judge_answer_alike(rt: HostRuntime) {
     let mut generator = Generator::new(78);
-    let mut seen = Seen { given: 0, none: 0 };
+    let (mut given, mut none): (u32, u32) = (0, 0);
     for number in 0..LOGS {
         let roots = if number % 2 == 0 {
             Roots::Free
@@ -124,13 +115,10 @@ fn the_searcher_and_the_judge_answer_alike(rt: HostRuntime) {
         };
         let mut recorded = Recorded::new(&rt, rt.alloc(), roots);
         fill(&mut generator, &mut recorded);
-        compare_log(&rt, rt.alloc(), &recorded, number, &mut seen);
+        let seen = compare_log(&rt, rt.alloc(), &recorded, number);
+        given = given.saturating_add(seen.0);
+        none = none.saturating_add(seen.1);
     }
-    expect(
-        &rt,
-        &("with a witness", seen.given),
-        200 <= seen.given,
-        true,
-    );
-    expect(&rt, &("with none", seen.none), 100 <= seen.none, true);
+    expect(&rt, &("with a witness", given), 200 <= given, true);
+    expect(&rt, &("with none", none), 100 <= none, true);
 }
