@@ -10,8 +10,6 @@ mod expected;
 #[cfg(test)]
 mod logged;
 #[cfg(test)]
-mod made;
-#[cfg(test)]
 mod memory;
 #[cfg(test)]
 mod passes;

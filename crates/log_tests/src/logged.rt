@@ -1,14 +1,16 @@
 //! A log whose events a memory permits.
-ghost use Rattle.std.specs.Prelude.{◌≡◌, [], None};
+ghost use Rattle.std.specs.Prelude.{◌≡◌, ◌++◌, ◌∷◌, [], List, None};
+ghost use Rattle.event_core.specs.Refusal.{Legal};
 ghost use Rattle.event_core.specs.Steps.{forked_by, log_of};
 ghost use Rattle.event_core.specs.declared.bounds.Roots.TheVariants.{OnlyMain};
+ghost use Rattle.event_core.specs.declared.events.Event.{Event};
 ghost use Rattle.traced_mem.specs.Standing.{StandsFor};
 
-use crate::made::make;
-use event_core::{Limits, Op, Roots, Step, ThreadId};
+use event_core::{Event, Limits, Op, Roots, Step, ThreadId};
 use log_pass::{Keeper, Name, Pass, Published};
 use std::alloc::Global;
 use std::process::Abort;
+use test_logs::call;
 use traced_mem::Memory;
 
 /// Nine threads, one variable, 256 events.
@@ -30,6 +32,23 @@ pub fn memory(alloc: Global, limits: Limits) -> Memory
         unreachable!()
     };
     memory
+}
+
+/// The event of the thread's call, which has to be permitted.
+pub fn make<R: Abort>(rt: &R, memory: &mut Memory, thread: ThreadId, op: Op, arg: u64) -> Event
+    ensures limits { memory.new.limits ≡ memory.old.limits }
+    ensures legal { (log : List Event) → StandsFor log memory.old → Legal memory.old.limits log result }
+    ensures stands { (log : List Event) → StandsFor log memory.old
+        → StandsFor (log ++ result ∷ []) memory.new }
+    ensures thread { result.thread ≡ thread }
+    ensures op { result.op ≡ op }
+    ensures site { result.site ≡ record { 0 = 0 } }
+{
+    let call = call(thread, op, arg);
+    memory.permit(&call).expect(rt, "permitted");
+    memory.prepare(&call).expect(rt, "memory");
+    let value = memory.apply(&call);
+    call.event_with(value)
 }
 
 /// The pass after a call of its thread, as under a lock, except a fork.

@@ -3,6 +3,7 @@ use crate::expected::expect;
 use event_core::{Act, Call, Limits, LockId, Op, Refusal, Roots, ThreadId, VarId};
 use std::alloc::Global;
 use std::process::Abort;
+use test_doubles::rows;
 use test_logs::{CALLS, Case, L, Line, SWAPS, T0, T1, X, Y, call};
 use traced_mem::Memory;
 
@@ -30,47 +31,15 @@ const NOTHING: Look = Look {
     values: [0, 0],
 };
 
-const LOOKS: &[Look] = &[
-    Look {
-        case: "each hold keeps a slot",
-        lines: 2,
-        holder: Some(T0),
-        depth: 2,
-        held: &[L],
-        ..NOTHING
-    },
-    Look {
-        case: "each hold keeps a slot",
-        lines: 5,
-        holder: Some(T0),
-        depth: 1,
-        held: &[L],
-        ..NOTHING
-    },
-    Look {
-        case: "each hold keeps a slot",
-        lines: 8,
-        ..NOTHING
-    },
-    Look {
-        case: "a load reads the last store",
-        lines: 7,
-        values: [18446744073709551615, 0],
-        ..NOTHING
-    },
-    Look {
-        case: "locks are held in the order of outer acquires",
-        lines: 10,
-        held: &[LockId(3), LockId(1), LockId(4), LockId(2)],
-        ..NOTHING
-    },
-    Look {
-        case: "a swap is a load and a store",
-        lines: 4,
-        values: [5, 0],
-        ..NOTHING
-    },
-];
+const LOOKS: &[Look] = rows! {
+    Look { case: "each hold keeps a slot", lines: 2, holder: Some(T0), depth: 2, held: &[L], ..NOTHING };
+    Look { case: "each hold keeps a slot", lines: 5, holder: Some(T0), depth: 1, held: &[L], ..NOTHING };
+    Look { case: "each hold keeps a slot", lines: 8, ..NOTHING };
+    Look { case: "a load reads the last store", lines: 7, values: [18446744073709551615, 0], ..NOTHING };
+    Look { case: "locks are held in the order of outer acquires", lines: 10,
+        held: &[LockId(3), LockId(1), LockId(4), LockId(2)], ..NOTHING };
+    Look { case: "a swap is a load and a store", lines: 4, values: [5, 0], ..NOTHING };
+};
 
 fn make_once(memory: &mut Memory, call: &Call) -> Answer {
     memory.permit(call)?;

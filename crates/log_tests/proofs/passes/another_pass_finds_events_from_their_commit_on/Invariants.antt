@@ -1,4 +1,4 @@
-use Rattle.log_tests.proofs.passes.another_pass_finds_2_events_before_a_commit_and_3_before_its_pass_parts.Given as goal
+use Rattle.log_tests.proofs.passes.another_pass_finds_events_from_their_commit_on.Given as goal
 
 -- the table that was just made
 abbrev pub ghosts-look_at : goal.ghosts-look_at
