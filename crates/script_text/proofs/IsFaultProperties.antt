@@ -1,5 +1,5 @@
 -- Why there is no script.
-use Rattle.std.proofs.Common.{◌≡◌, ℕ, ◌+◌, ◌≤◌, ◌++◌, List, [], ◌∷◌, length, Option, Some, None, Ok, ap}
+use Rattle.std.proofs.Common.{◌≡◌, ℕ, ◌+◌, ◌≤◌, List, [], ◌∷◌, length, Option, Some, None, Ok, ap}
 use Rattle.std.proofs.Common.{append-nil, ◌∙◌, sym, subst, inl, inr, refl, arith}
 use Rattle.std.specs.Prelude.{IfSome, Result, Err}
 use Rattle.std.proofs.lemmas.Option.{IfSome_then}
@@ -14,7 +14,7 @@ use Rattle.script_text.specs.declared.causes.ScriptCause.TheVariants as causes
 use Rattle.script_text.specs.declared.causes.ScriptFault.{ScriptFault}
 use Rattle.script_text.specs.Forms.{Fails}
 use Rattle.script_text.specs.Scripts.{Parsed, IsDraft, begun, judge, script_of, after_content}
-use Rattle.script_text.specs.Readings.{Reads, Stops, HasFault, HasNoneBefore, Incomplete, IsFault, ReadFails}
+use Rattle.script_text.specs.Readings.{Reads, Stops, HasFault, HasNoneBefore, Incomplete, IsFault}
 use Rattle.script_text.proofs.ReadsProperties.{judge_from, reads_judged, stop_found}
 use Rattle.script_text.proofs.AreLegalProperties.{draft_judged, draft_begun}
 

@@ -1,4 +1,4 @@
-use Rattle.std.proofs.Common.{◌≡◌, List, Ok, ℕ, subst, sym}
+use Rattle.std.proofs.Common.{◌≡◌, Ok, subst, sym}
 use Rattle.std.specs.Prelude.{IfSome}
 use Rattle.rapid_text.specs.Turns.{IsCutShort}
 use Rattle.script_text.specs.Scripts.{IsDraft, Parsed, script_of}
