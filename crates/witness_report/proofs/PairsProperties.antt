@@ -1,6 +1,6 @@
 -- What holds of each pair of locations of races.
-use Rattle.std.proofs.Common.{◌≡◌, ℕ, ◌+◌, ◌<◌, ◌≤◌, List, [], ◌∷◌, ◌++◌, Option, Some, None, All, refl, sym}
-use Rattle.std.proofs.Common.{◌∙◌, ap, subst, fold, get_or, length, position, set, take, arith}
+use Rattle.std.proofs.Common.{◌≡◌, ℕ, ◌+◌, ◌<◌, ◌≤◌, List, [], ◌∷◌, Option, Some, None, All, refl, sym}
+use Rattle.std.proofs.Common.{◌∙◌, ap, subst, fold, get_or, length, position, take, arith}
 use Rattle.std.proofs.lemmas.List.Elements.{All-get_or, All-head, All-nil, All-push, All-set, All-tail}
 use Rattle.std.proofs.lemmas.List.Elements.{All-weaker}
 use Rattle.std.proofs.lemmas.List.Quantifiers.{position-Some}

@@ -1,5 +1,5 @@
 -- What an answer is for the finding of a text.
-use Rattle.std.proofs.Common.{◌≡◌, ◌≢◌, ◌∙◌, ℕ, List, Option, Bool, true, Result, Ok, Err, ap, refl}
+use Rattle.std.proofs.Common.{◌≡◌, ◌≢◌, ◌∙◌, ℕ, List, Option, true, Result, Ok, Err, ap, refl}
 use Rattle.std.proofs.Common.{subst, sym}
 use Rattle.event_core.specs.declared.bounds.Limits.{Limits}
 use Rattle.event_core.specs.declared.events.Event.{Event}
@@ -9,7 +9,7 @@ use Rattle.trace_report.specs.declared.faults.ReplayFault.TheVariants.{Refused, 
 use Rattle.trace_report.specs.declared.faults.TraceFault.{TraceFault}
 use Rattle.trace_report.specs.Findings.{Trace}
 use Rattle.trace_report.specs.Judging.{FindsFault, FindsTrace}
-use Rattle.trace_report.specs.Replayed.{fault_text, gives_up, says_nothing}
+use Rattle.trace_report.specs.Replayed.{fault_text, says_nothing}
 use Rattle.trace_report.proofs.TellsTextProperties.{TellsFault}
 use Rattle.witness_report.specs.declared.shown.Shown.{Shown}
 use Rattle.witness_report.specs.Showing.{AnswersText, HasAnswered, is_silent}

@@ -1,4 +1,4 @@
-use Rattle.std.proofs.Common.{All, List, rules, subst, sym}
+use Rattle.std.proofs.Common.{All, List, subst, sym}
 use Rattle.event_core.specs.declared.events.Event.{Event}
 use Rattle.seq_monitor.specs.Monitored.{AreVerdicts}
 use Rattle.trace_report.specs.Reports.{AreNamed}
