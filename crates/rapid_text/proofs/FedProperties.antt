@@ -78,8 +78,8 @@ module _ {S : Type 0} (Step : S → ℕ → List ℕ → S → Type 0) where
       (p : Fed Step left mid n s t c) → Consumes left rest p.bytes → Why p.bytes
       → Truncates left rest Why c.unfinished (λ came. FoldsEnded Step s came c.unfinished t)
   fed_cut {left} {mid} {rest} {s = s} {t = t} {c = c} Why p came why =
-      truncates left rest Why (lines_place c) (λ bytes. FoldsEnded Step s bytes c.unfinished t) p.bytes came why
-      p.takes.advances (record {
+      truncates left rest Why (lines_place c) (λ bytes. FoldsEnded Step s bytes c.unfinished t) p.bytes came
+      why p.takes.advances (record {
         ended = p.takes.ended;
         folds = p.takes.folds;
         next = p.takes.number;
@@ -89,8 +89,8 @@ module _ {S : Type 0} (Step : S → ℕ → List ℕ → S → Type 0) where
   module _ {F : Type 0} (Stop : S → ℕ → List ℕ → F → Type 0) where
     -- the sink stopped at a line of the next piece
     pub fed_stops : {left mid : Option (List ℕ)} (rest : Option (List ℕ)) {n : ℕ} {s t : S} {c : Lines}
-        {f : F} (piece : List ℕ) → Fed Step left mid n s t c → Consumes mid rest piece → StopsIn Step Stop t c piece f
-        → OfText left (λ text. FaultIn Step Stop s text f)
+        {f : F} (piece : List ℕ) → Fed Step left mid n s t c → Consumes mid rest piece
+        → StopsIn Step Stop t c piece f → OfText left (λ text. FaultIn Step Stop s text f)
     fed_stops {left} {mid} rest {s = s} {f = f} piece p came h =
         begins (λ text. FaultIn Step Stop s text f) left rest (p.bytes ++ piece)
         (Consumes-trans left mid rest p.bytes piece p.came came)

@@ -21,14 +21,14 @@ pub record Takes {S : Type 0} (Step : S → ℕ → List ℕ → S → Type 0) (
   pub advances : Advances (lines_place old) bytes rest (lines_place new)
 
 -- whatever follows the bytes, one of the lines to come has this fault, and no line before it has one
-abbrev pub StopsIn : {S F : Type 0} → (S → ℕ → List ℕ → S → Type 0) → (S → ℕ → List ℕ → F → Type 0) → S → Lines
-    → List ℕ → F → Type 0
+abbrev pub StopsIn : {S F : Type 0} → (S → ℕ → List ℕ → S → Type 0) → (S → ℕ → List ℕ → F → Type 0) → S
+    → Lines → List ℕ → F → Type 0
 StopsIn Step Stop s old bytes f =
     (more : List ℕ) → FaultAmong Step Stop old.unfinished s (to_come old (bytes ++ more)) f
 
 -- the lines that ended in these first bytes of a text were folded; whatever follows, line n is the next
-pub record FoldsEnded {S : Type 0} (Step : S → ℕ → List ℕ → S → Type 0) (s : S) (came : List ℕ) (n : ℕ) (t : S)
-    : Type 0 where
+pub record FoldsEnded {S : Type 0} (Step : S → ℕ → List ℕ → S → Type 0) (s : S) (came : List ℕ) (n : ℕ)
+    (t : S) : Type 0 where
   pub ended : List (List ℕ)
   pub folds : Folds Step 1 s ended t
   pub next : n ≡ 1 + length ended

@@ -24,6 +24,6 @@ abbrev pub FoldsAll : {S : Type 0} → (S → ℕ → List ℕ → S → Type 0)
 FoldsAll Step s text t = Folds Step 1 s (lines_of text) t
 
 -- one of them has this fault, and no line before it has one
-abbrev pub FaultIn : {S F : Type 0} → (S → ℕ → List ℕ → S → Type 0) → (S → ℕ → List ℕ → F → Type 0) → S → List ℕ
-    → F → Type 0
+abbrev pub FaultIn : {S F : Type 0} → (S → ℕ → List ℕ → S → Type 0) → (S → ℕ → List ℕ → F → Type 0) → S
+    → List ℕ → F → Type 0
 FaultIn Step Stop s text f = FaultAmong Step Stop 1 s (lines_of text) f

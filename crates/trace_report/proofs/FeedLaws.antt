@@ -65,8 +65,8 @@ module _ (s : Text) (c : Lines) where
       → EndsLegal s.judge.limits s.judge.log (cutting_of s.names c) t.names t.judge.log
   text_ended t h =
       let lines = to_come c [] in
-      let on = lines_go_on names_of IsAfter s.judge.limits c.unfinished (c.unfinished + length lines) s t lines
-      s.judge.log h refl (refl, refl) in
+      let on = lines_go_on names_of IsAfter s.judge.limits c.unfinished (c.unfinished + length lines) s t
+      lines s.judge.log h refl (refl, refl) in
       record {
         named = λ named. subst (λ (l : List Event). AreNamed t.names l) (sym on.after.1) (on.named named);
         finds = ap (λ (ls : List (List ℕ)).

@@ -113,8 +113,8 @@ stop_says : (m : Limits) (Before : Limits → List Event → Type 0) (log : List
 stop_says m Before log names n line others (Text f) a h = record {
   finds = λ g.
       ap (finding_after m log) (first_judged names n line others (its_own f.cause h.why g))
-      ∙ ap (λ (k : ℕ). let r : Result Trace TraceFault = Err (Text (record { line = k; cause = f.cause })) in r)
-      (sym h.at);
+      ∙ ap (λ (k : ℕ).
+      let r : Result Trace TraceFault = Err (Text (record { line = k; cause = f.cause })) in r) (sym h.at);
   reached = λ out. names_reached m log names n f (reading names (content line))
       (λ now. judge others now (n + 1)) h.at (h.memory out);
 }

@@ -82,8 +82,8 @@ module _ {S : Type 0} (names : S → Tables) (After : S → Limits → List Even
           so = λ more.
               let later = so.law more in
               subst (λ (found : Result Trace TraceFault). IsFrom n found)
-              (sym (ap (λ (u : Tables). finding_after m [] (judge (lines_of (h.came ++ more)) u 1)) (sym first)
-              ∙ ap (λ (ls : List (List ℕ)). finding_after m [] (judge ls (names s) 1)) later.1
+              (sym (ap (λ (u : Tables). finding_after m [] (judge (lines_of (h.came ++ more)) u 1))
+              (sym first) ∙ ap (λ (ls : List (List ℕ)). finding_after m [] (judge ls (names s) 1)) later.1
               ∙ on.same later.0))
               (from_line m on.longer later.0 (names t) n);
         };

@@ -3,7 +3,8 @@ use Rattle.rapid_text.proofs.feeding.finish_lines.Goals as goal
 
 pub returns-in_default-clause-ok : goal.returns-in_default-clause-ok
 returns-in_default-clause-ok g c =
-    ends_none g.S.LineSink.takes c.args.sink.now c.args.cutter.now (c.last_line.ensures.none c.in_default.is).0
+    ends_none g.S.LineSink.takes c.args.sink.now c.args.cutter.now
+    (c.last_line.ensures.none c.in_default.is).0
 
 pub returns-clause-ok : goal.returns-clause-ok
 returns-clause-ok g c =

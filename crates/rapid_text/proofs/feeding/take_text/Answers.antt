@@ -44,7 +44,8 @@ pub returns-clause-truncated : goal.returns-clause-truncated
 returns-clause-truncated g c =
     let input = c.pulls.input in
     let fed = c.pulls.invariant.fed in
-    let turns : c.pulls.counter ≡ c.args.turns = omega (arith, c.pulls-test.false, c.pulls.auto.counter-end) in
+    let turns : c.pulls.counter ≡ c.args.turns =
+    omega (arith, c.pulls-test.false, c.pulls.auto.counter-end) in
     rw c.unfinished-2.ensures (fed_cut g.S.LineSink.takes
     (IsCutShort c.args.turns (g.I.Input.failed input) (g.I.Input.pulls c.args.input.now)
     (g.I.Input.pulls input)) fed fed.came

@@ -27,8 +27,8 @@ returns-in-Some-clause-fault g c =
 pub returns-in-Some-clause-truncated : goal.returns-in-Some-clause-truncated
 returns-in-Some-clause-truncated g c read =
     let after = g.J.Judge.is_after in
-    truncated_text (λ (t : JudgedText g.row.J.Denot). t.names) (λ (t : JudgedText g.row.J.Denot). after t.judge)
-    c.args.limits c.new-text.result c.new-text.ensures.names
+    truncated_text (λ (t : JudgedText g.row.J.Denot). t.names)
+    (λ (t : JudgedText g.row.J.Denot). after t.judge) c.args.limits c.new-text.result c.new-text.ensures.names
     (subst (λ j. after j c.args.limits []) (sym c.new-text.ensures.judge) c.requires.begins) c.in-Some.line
     c.take_text.new.sink (rw c.in-Some.is at c.in-Ok.ensures.truncated)
 
