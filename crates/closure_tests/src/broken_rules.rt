@@ -14,50 +14,46 @@ use crate::rules::Rules;
 use crate::told::{Told, Trial, Way, tell};
 use event_core::{Done, Limits, Op, Roots};
 use std::alloc::Global;
+use test_doubles::rows;
 use test_logs::Generator;
 
 const LOGS: usize = 500;
 
-// A broken rule, and its name.
-const BROKEN: &[(Rules, &str); 6] = &[
+// The broken rules.
+const BROKEN: &[(Rules, &str)] = rows! {
     // Accesses that only releases of one lock order race.
-    (Rules::WithoutB, "rule (b) is left out"),
+    Rules::WithoutB, "rule (b) is left out";
     // Accesses that only releases of one thread order race.
-    (Rules::BWithoutOwnThread, "(b) without own thread"),
+    Rules::BWithoutOwnThread, "(b) without own thread";
     // What an idle child's fork and join order races.
-    (Rules::WithoutForkToJoin, "no fork below its join"),
+    Rules::WithoutForkToJoin, "no fork below its join";
     // Races with accesses before the conflicting one are missed.
-    (Rules::AToAcquire, "(a) ends at the acquire"),
+    Rules::AToAcquire, "(a) ends at the acquire";
     // The conflicting accesses race.
-    (Rules::AToRelease, "(a) ends at the release"),
+    Rules::AToRelease, "(a) ends at the release";
     // Races with what is before accesses of one thread are missed.
-    (Rules::AWithOwnThread, "(a) with own thread"),
-];
+    Rules::AWithOwnThread, "(a) with own thread";
+};
 
-// What the logs have.
-#[derive(Clone, Copy)]
-struct Tally {
-    forks: u64,
-    joins: u64,
-    swaps: u64,
-    // How many logs each of the broken rules judges otherwise.
-    changed: [u64; 6],
+// What is counted of the acts that are accepted.
+const ACTS: [&str; 3] = ["forks", "joins", "swaps"];
+
+fn count_acts(counts: &mut [u64; 3], told: &Told) {
+    for event in &told.log {
+        increase(&mut counts[0], u64::from(matches!(event.op, Op::Fork(_))));
+        increase(&mut counts[1], u64::from(matches!(event.op, Op::Join(_))));
+    }
+    for done in &told.answers {
+        increase(&mut counts[2], u64::from(matches!(done, Done::Swap(_))));
+    }
 }
 
-impl Tally {
-    fn add(&mut self, alloc: Global, told: &Told) {
-        for done in &told.answers {
-            increase(&mut self.swaps, u64::from(matches!(done, Done::Swap(_))));
-        }
-        for event in &told.log {
-            increase(&mut self.forks, u64::from(matches!(event.op, Op::Fork(_))));
-            increase(&mut self.joins, u64::from(matches!(event.op, Op::Join(_))));
-        }
-        for (changed, (rules, _)) in self.changed.iter_mut().zip(BROKEN) {
-            let closure = Closure::of(alloc, &told.log, *rules);
-            let is_same = closure.has_verdicts(&told.log, &told.verdicts);
-            increase(changed, u64::from(!is_same));
-        }
+// Counts for each of the broken rules whether it judges the log otherwise.
+fn count_changed(counts: &mut [u64; 6], alloc: Global, told: &Told) {
+    for (count, (rules, _name)) in counts.iter_mut().zip(BROKEN) {
+        let closure = Closure::of(alloc, &told.log, *rules);
+        let is_same = closure.has_verdicts(&told.log, &told.verdicts);
+        increase(count, u64::from(!is_same));
     }
 }
 
@@ -66,12 +62,7 @@ fn each_broken_rule_changes_verdicts(rt: HostRuntime) {
     let alloc = rt.alloc();
     let limits = Limits::new(3, 2, 2, MOST_EVENTS as u64, Roots::Free).expect(&rt, "small limits");
     let mut generator = Generator::new(2017);
-    let mut tally = Tally {
-        forks: 0,
-        joins: 0,
-        swaps: 0,
-        changed: [0; 6],
-    };
+    let (mut accepted, mut changed) = ([0; 3], [0; 6]);
     for number in 0..LOGS {
         let trial = Trial {
             case: "log of a template",
@@ -83,14 +74,15 @@ fn each_broken_rule_changes_verdicts(rt: HostRuntime) {
         let told = tell(&rt, alloc, limits, &acts, trial);
         expect(&rt, &trial, told.answers.len(), acts.len());
         told.compare(&rt, alloc, trial);
-        tally.add(alloc, &told);
+        count_acts(&mut accepted, &told);
+        count_changed(&mut changed, alloc, &told);
         drop(told);
         drop(acts);
     }
-    expect_enough(&rt, "forks", tally.forks);
-    expect_enough(&rt, "joins", tally.joins);
-    expect_enough(&rt, "swaps", tally.swaps);
-    for (changed, (_, name)) in tally.changed.iter().zip(BROKEN) {
-        expect_enough(&rt, name, *changed);
+    for (what, count) in ACTS.iter().zip(accepted) {
+        expect_enough(&rt, what, count);
+    }
+    for (count, (_, name)) in changed.iter().zip(BROKEN) {
+        expect_enough(&rt, name, *count);
     }
 }

@@ -1,5 +1,5 @@
 //! Random calls, the same in each run.
-use crate::templates::{Cast, LOCKS, TEMPLATES, THREADS, VARS, template};
+use crate::templates::{Cast, LOCKS, THREADS, VARS, templates};
 use event_core::{Act, Call, LockId, Op, SiteId, ThreadId, VarId};
 use std::alloc::Global;
 use std::process::Abort;
@@ -63,7 +63,8 @@ pub fn draw_acts(rt: &impl Abort, generator: &mut Generator, alloc: Global) -> V
         lock: generator.below(LOCKS),
         var: generator.below(VARS),
     };
-    let text = template(generator.below(TEMPLATES));
+    let number = generator.below(5) as usize;
+    let text = templates().get(number).expect(rt, "a template");
     for index in 0..count_lines(text) {
         let line = call_at(text, index).expect(rt, "a call");
         if generator.below(4) == 0 {

@@ -160,14 +160,8 @@ pub fn tell(rt: &impl Abort, alloc: Global, limits: Limits, acts: &[Act], trial:
     for _trial in 0..trial.tries {
         let made = told.answers.len();
         if made < acts.len() {
-            make(
-                rt,
-                alloc,
-                &mut monitor,
-                &acts[made..],
-                trial.way,
-                &mut told.answers,
-            );
+            let left = &acts[made..];
+            make(rt, alloc, &mut monitor, left, trial.way, &mut told.answers);
         }
     }
     told.keep(&monitor);
