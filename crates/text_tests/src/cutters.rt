@@ -72,18 +72,10 @@ fn expect_steps(rt: &impl Abort, cutter: &mut Cutter, steps: &[Step]) {
         let answer = give(cutter, given);
         let text = answer_text(&answer);
         let failed = answer.err().map(|fault| fault.line);
-        let came = (
-            text.as_str(),
-            cutter.failed(),
-            cutter.line(),
-            cutter.unfinished(),
-        );
-        expect(
-            rt,
-            wanted.as_bytes(),
-            &came,
-            &(*wanted, failed, *line, *unfinished),
-        );
+        let (at, open) = (cutter.line(), cutter.unfinished());
+        let came = (text.as_str(), cutter.failed(), at, open);
+        let expected = (*wanted, failed, *line, *unfinished);
+        expect(rt, wanted.as_bytes(), &came, &expected);
     }
 }
 

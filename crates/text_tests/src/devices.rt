@@ -23,7 +23,7 @@ fn a_reader_may_fail_at_each_byte(rt: HostRuntime) {
             FEW_FIELDS
         };
         let text = Text::whole(&text[..end]).failing(true);
-        expect_answers(&rt, rt.alloc(), text, 100, answers);
+        expect_answers(&rt, text, 100, answers);
     }
 }
 
@@ -39,6 +39,6 @@ const TURNS: &[(u32, &str)] = rows! {
 fn each_pull_takes_a_turn(rt: HostRuntime) {
     for (turns, answers) in TURNS {
         let text = Text::byte_by_byte(b"T0|w(x)|1\n");
-        expect_answers(&rt, rt.alloc(), text, *turns, answers);
+        expect_answers(&rt, text, *turns, answers);
     }
 }

@@ -1,8 +1,6 @@
 //! Texts without a fault, however they are cut.
-use super::readers::{Case, expect_all, expect_answers};
-use std::alloc::Global;
+use super::readers::{Case, Host, expect_all, expect_answers};
 use std::fmt::{InlineText, Write};
-use std::process::Abort;
 use test_doubles::{Page, Room, Text, rows};
 
 const CASES: &[Case] = rows! {
@@ -30,7 +28,7 @@ fn cases() -> &'static [Case] {
 
 #[test]
 fn texts_without_a_fault_are_read_to_their_end(rt: HostRuntime) {
-    expect_all(&rt, rt.alloc(), cases());
+    expect_all(&rt, cases());
 }
 
 /// After so many empty lines the line of an event lies across the end of a piece of 4,096 bytes, at each of
@@ -47,19 +45,13 @@ fn a_line_may_lie_across_pieces(rt: HostRuntime) {
         let answers: InlineText<128> = InlineText::of(format_args!(
             "{line}: T0 Store(VarId(0)) at 0: 0\n{next}: T0 Load(VarId(0)) at 1: 0\nend"
         ));
-        expect_answers(
-            &rt,
-            rt.alloc(),
-            Text::whole(text.bytes()),
-            100,
-            answers.as_str(),
-        );
+        expect_answers(&rt, Text::whole(text.bytes()), 100, answers.as_str());
     }
 }
 
 /// The answers for a thousand lines: stores by one thread at one place.
-fn stores(rt: &impl Abort, alloc: Global) -> String {
-    let mut answers = String::new(alloc);
+fn stores(rt: &impl Host) -> String {
+    let mut answers = String::new(rt.alloc());
     for line in 1..1001 {
         writeln!(answers, "{line}: T0 Store(VarId(0)) at 0: 0").expect(rt, "memory for a line");
     }
@@ -73,10 +65,10 @@ fn a_long_text_is_read_to_its_end(rt: HostRuntime) {
     for _ in 0..1000 {
         text.keep(b"T0|w(x)|7\n");
     }
-    let answers = stores(&rt, rt.alloc());
+    let answers = stores(&rt);
     for first in [4096, 4095, 33] {
         let text = Text::cut(text.bytes(), first, 4096);
-        expect_answers(&rt, rt.alloc(), text, 100, answers.as_str());
+        expect_answers(&rt, text, 100, answers.as_str());
     }
     drop(answers);
 }

@@ -32,7 +32,7 @@ fn cases() -> &'static [Case] {
 
 #[test]
 fn the_first_fault_is_told_in_its_turn(rt: HostRuntime) {
-    expect_all(&rt, rt.alloc(), cases());
+    expect_all(&rt, cases());
 }
 
 /// So many times the letter a and then an end, whether the reader fails after it, and the answer. A name of
@@ -66,7 +66,7 @@ fn lines_and_names_have_a_greatest_length(rt: HostRuntime) {
         let page = letters_and(*len, end);
         for piece in [1, 1000, 4096] {
             let text = Text::cut(page.bytes(), piece, piece).failing(*fails);
-            expect_answers(&rt, rt.alloc(), text, 2000, answer);
+            expect_answers(&rt, text, 2000, answer);
         }
     }
 }
@@ -82,12 +82,8 @@ fn is_release_of_m(line: &NamedLine<'_>) -> bool {
 fn a_content_is_read_by_itself(rt: HostRuntime) {
     let line = read_line(b"T0|rel(m(1))|a:7").expect(&rt, "a line");
     assert!(rt; is_release_of_m(&line));
-    expect(
-        &rt,
-        b"a release",
-        &Word::Release.spelled(),
-        &b"rel".as_slice(),
-    );
+    let spelled = Word::Release.spelled();
+    expect(&rt, b"a release", &spelled, &b"rel".as_slice());
 }
 
 const NAMES_OF_CAUSES: &[(Cause, &str)] = &[

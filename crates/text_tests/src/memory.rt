@@ -2,11 +2,9 @@
 //! are right.
 ghost use Rattle.rapid_text.specs.Tables.{IsNameOf};
 
-use super::readers::{expect, expect_answers, first_other, limits};
+use super::readers::{Host, expect, expect_answers, first_other, limits};
 use super::script_lines::{expect_read, print_reading, scripts};
 use rapid_text::{Kind, NameFault, Names, Reader};
-use std::alloc::Global;
-use std::process::Abort;
 use test_doubles::{Page, Pieces, Room, Text};
 
 /// The number of the name, which is asked for again where a growth was refused.
@@ -37,9 +35,9 @@ const ANSWERS: &str = "1: T0 Fork(ThreadId(1)) at 0: 0\n2: T1 Acquire(LockId(0))
     3: T1 Store(VarId(0)) at 2: 0\n4: T0 Load(VarId(0)) at 0: 0\nend";
 
 /// Whether a reader gives all answers. It gives the right ones until memory runs out.
-fn is_read(rt: &impl Abort, alloc: Global) -> bool {
+fn is_read(rt: &impl Host) -> bool {
     let source = Pieces::of(Text::whole(TEXT));
-    let Ok(mut reader) = Reader::new(alloc, source, limits(rt), 100) else {
+    let Ok(mut reader) = Reader::new(rt.alloc(), source, limits(rt), 100) else {
         return false;
     };
     let other = first_other(&mut reader, ANSWERS);
@@ -54,8 +52,8 @@ fn is_read(rt: &impl Abort, alloc: Global) -> bool {
 
 #[test]
 fn a_text_is_read_where_memory_is_refused(rt: HostRuntime) {
-    if !is_read(&rt, rt.alloc()) {
-        expect_answers(&rt, rt.alloc(), Text::whole(TEXT), 100, ANSWERS);
+    if !is_read(&rt) {
+        expect_answers(&rt, Text::whole(TEXT), 100, ANSWERS);
     }
 }
 
@@ -64,9 +62,9 @@ fn scripts_are_read_where_memory_is_refused(rt: HostRuntime) {
     for (bytes, wanted) in scripts() {
         let text = Text::whole(bytes.as_bytes());
         let mut page = Page::blank(Room::AMPLE);
-        print_reading(&rt, rt.alloc(), text, 100, &mut page);
+        print_reading(&rt, text, 100, &mut page);
         if page.text().ends_with(": OutOfMemory") {
-            expect_read(&rt, rt.alloc(), text, 100, wanted);
+            expect_read(&rt, text, 100, wanted);
         } else {
             expect(&rt, text.bytes, &page.text(), wanted);
         }

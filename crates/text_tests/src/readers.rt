@@ -1,10 +1,14 @@
 //! What a reader answers, one call after another.
 use event_core::{Event, Limits, Roots};
 use rapid_text::{Reader, TextFault};
-use std::alloc::Global;
 use std::fmt::{Debug, InlineText};
 use std::process::Abort;
 use test_doubles::{Pieces, Text, event_text};
+
+/// What tests may do.
+pub trait Host: Abort + AllocGlobal {}
+
+impl<R: Abort + AllocGlobal> Host for R {}
 
 /// Ends the test, unless what came is what was expected, with the beginning of the case and both.
 pub fn expect<T: Debug + PartialEq>(rt: &impl Abort, case: &[u8], came: &T, expected: &T) {
@@ -47,8 +51,8 @@ pub fn first_other<'a>(
 }
 
 /// A reader of the text with so many turns gives these answers.
-pub fn expect_answers(rt: &impl Abort, alloc: Global, text: Text<'_>, turns: u32, answers: &str) {
-    let made = Reader::new(alloc, Pieces::of(text), limits(rt), u64::from(turns));
+pub fn expect_answers(rt: &impl Host, text: Text<'_>, turns: u32, answers: &str) {
+    let made = Reader::new(rt.alloc(), Pieces::of(text), limits(rt), u64::from(turns));
     let mut reader = made.expect(rt, "a reader");
     let other = first_other(&mut reader, answers);
     drop(reader);
@@ -58,12 +62,12 @@ pub fn expect_answers(rt: &impl Abort, alloc: Global, text: Text<'_>, turns: u32
 }
 
 /// A reader of each text gives its answers: whole, byte by byte, and cut in two at each place.
-pub fn expect_all(rt: &impl Abort, alloc: Global, cases: &[Case]) {
+pub fn expect_all(rt: &impl Host, cases: &[Case]) {
     for (bytes, answers) in cases {
         for first in 1..bytes.len() {
-            expect_answers(rt, alloc, Text::cut(bytes, first, 4096), 100, answers);
+            expect_answers(rt, Text::cut(bytes, first, 4096), 100, answers);
         }
-        expect_answers(rt, alloc, Text::whole(bytes), 100, answers);
-        expect_answers(rt, alloc, Text::byte_by_byte(bytes), 10000, answers);
+        expect_answers(rt, Text::whole(bytes), 100, answers);
+        expect_answers(rt, Text::byte_by_byte(bytes), 10000, answers);
     }
 }

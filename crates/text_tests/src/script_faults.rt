@@ -1,7 +1,7 @@
 //! Scripts with a fault, each with its line and its cause.
 use super::faults::letters_and;
 use super::readers::expect;
-use super::script_lines::expect_read;
+use super::script_lines::{expect_read, expect_script};
 use rapid_text::Kind;
 use script_text::ScriptCause;
 use test_doubles::{Text, rows};
@@ -36,26 +36,23 @@ fn faults() -> &'static [(&'static str, &'static str)] {
     FAULTS
 }
 
-/// A failed read is reported where it failed. Whole lines that came before the failure are judged first. The
-/// fault has the number of the line whose end was not read.
-const FAILED_READS: &[(&str, &str)] = rows! {
-    "", "1: Read";
-    "m acq l", "1: Read";
-    "m r x\n", "2: Read";
-    "m r x\nm acq", "2: Read";
-    "m r\nm r x", "1: BadLine";
-    "m r x\na r x\n", "3: Read";
-};
-
 /// How many letters the text begins with, what follows them, whether the reader then fails, and the line and
 /// the cause of the fault.
-const LENGTHS: &[(usize, &str, bool, &str)] = rows! {
+const PARTS: &[(usize, &str, bool, &str)] = rows! {
     255, " r x\na r x", false, "2: NoFork";
     256, " r x\na r x", false, "1: BadLine";
     1024, "\r\n", false, "1: BadLine";
     1025, "\r\n", false, "1: LineTooLong";
     1025, "", true, "1: Read";
     1026, "", true, "1: LineTooLong";
+    // A failed read is reported where it failed. Whole lines that came before the failure are judged first.
+    // The fault has the number of the line whose end was not read.
+    0, "", true, "1: Read";
+    0, "m acq l", true, "1: Read";
+    0, "m r x\n", true, "2: Read";
+    0, "m r x\nm acq", true, "2: Read";
+    0, "m r\nm r x", true, "1: BadLine";
+    0, "m r x\na r x\n", true, "3: Read";
 };
 
 /// Each read of one byte takes a turn, the one that finds the end too.
@@ -64,33 +61,19 @@ const TURNS: &[(u32, &str)] = rows! {
     12, "2: NoFork";
 };
 
-/// Whole and byte by byte.
 #[test]
 fn the_first_cause_is_told(rt: HostRuntime) {
     for (text, fault) in faults() {
-        for text in [
-            Text::whole(text.as_bytes()),
-            Text::byte_by_byte(text.as_bytes()),
-        ] {
-            expect_read(&rt, rt.alloc(), text, 100, fault);
-        }
+        expect_script(&rt, text, fault);
     }
 }
 
 #[test]
-fn lines_and_names_of_scripts_have_a_greatest_length(rt: HostRuntime) {
-    for (letters, rest, fails, fault) in LENGTHS {
+fn a_line_or_a_name_that_is_too_long_and_a_failed_read_are_told(rt: HostRuntime) {
+    for (letters, rest, fails, fault) in PARTS {
         let page = letters_and(*letters, rest);
         let text = Text::whole(page.bytes()).failing(*fails);
-        expect_read(&rt, rt.alloc(), text, 100, fault);
-    }
-}
-
-#[test]
-fn a_failed_read_is_told_where_it_failed(rt: HostRuntime) {
-    for (text, fault) in FAILED_READS {
-        let text = Text::whole(text.as_bytes()).failing(true);
-        expect_read(&rt, rt.alloc(), text, 100, fault);
+        expect_read(&rt, text, 100, fault);
     }
 }
 
@@ -98,7 +81,7 @@ fn a_failed_read_is_told_where_it_failed(rt: HostRuntime) {
 fn a_reader_is_asked_no_more_often_than_the_turns(rt: HostRuntime) {
     for (turns, fault) in TURNS {
         let text = Text::byte_by_byte(b"m r x\na r x");
-        expect_read(&rt, rt.alloc(), text, *turns, fault);
+        expect_read(&rt, text, *turns, fault);
     }
 }
 

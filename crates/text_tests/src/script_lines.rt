@@ -1,10 +1,8 @@
 //! Scripts without a fault, with their lines by thread, and what a text is read as, whole or in pieces.
-use super::readers::expect;
+use super::readers::{Host, expect};
 use event_core::{Act, Limits, Roots, ThreadId};
 use rapid_text::{Kind, Names};
 use script_text::{Script, ScriptLine};
-use std::alloc::Global;
-use std::process::Abort;
 use test_doubles::{Page, Pieces, Room, Text, event_text, rows};
 
 /// A script, and what it is read as: the names of its threads, the lines of each thread with their numbers,
@@ -72,9 +70,9 @@ fn print_script(page: &mut Page, script: &Script) {
 
 /// What the text is read as, with names for three threads, two locks and two variables: a script, or the line
 /// and the cause of a fault.
-pub fn print_reading(rt: &impl Abort, alloc: Global, text: Text<'_>, turns: u32, page: &mut Page) {
+pub fn print_reading(rt: &impl Host, text: Text<'_>, turns: u32, page: &mut Page) {
     let limits = Limits::new(3, 2, 2, 1000, Roots::OnlyMain).expect(rt, "limits");
-    match Script::read(alloc, &mut Pieces::of(text), limits, u64::from(turns)) {
+    match Script::read(rt.alloc(), &mut Pieces::of(text), limits, u64::from(turns)) {
         Ok(script) => {
             print_script(page, &script);
             drop(script);
@@ -83,21 +81,22 @@ pub fn print_reading(rt: &impl Abort, alloc: Global, text: Text<'_>, turns: u32,
     }
 }
 
-pub fn expect_read(rt: &impl Abort, alloc: Global, text: Text<'_>, turns: u32, wanted: &str) {
+pub fn expect_read(rt: &impl Host, text: Text<'_>, turns: u32, wanted: &str) {
     let mut page = Page::blank(Room::AMPLE);
-    print_reading(rt, alloc, text, turns, &mut page);
+    print_reading(rt, text, turns, &mut page);
     expect(rt, text.bytes, &page.text(), &wanted);
 }
 
-/// Whole and byte by byte.
+/// The script is read so, whole and byte by byte.
+pub fn expect_script(rt: &impl Host, script: &str, wanted: &str) {
+    let bytes = script.as_bytes();
+    expect_read(rt, Text::whole(bytes), 100, wanted);
+    expect_read(rt, Text::byte_by_byte(bytes), 100, wanted);
+}
+
 #[test]
 fn each_thread_has_its_lines(rt: HostRuntime) {
     for (text, wanted) in scripts() {
-        for text in [
-            Text::whole(text.as_bytes()),
-            Text::byte_by_byte(text.as_bytes()),
-        ] {
-            expect_read(&rt, rt.alloc(), text, 100, wanted);
-        }
+        expect_script(&rt, text, wanted);
     }
 }

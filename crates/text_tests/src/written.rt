@@ -1,8 +1,6 @@
 //! Lines that are written, and read again.
-use super::readers::{expect, limits};
+use super::readers::{Host, expect, limits};
 use rapid_text::{Device, Output, Reader, write_event, write_fault};
-use std::alloc::Global;
-use std::process::Abort;
 use test_doubles::{Page, Room};
 
 /// Reads each event and writes its line: whether all were written, up to the end of the text. None where it
@@ -23,8 +21,8 @@ fn copy_all<W: Output>(reader: &mut Reader<Device<&[u8]>>, w: &mut W) -> Option<
 }
 
 /// Whether the lines of all events of the text are written. None where it could not be read.
-fn copy<W: Output>(rt: &impl Abort, alloc: Global, text: &[u8], w: &mut W) -> Option<bool> {
-    let made = Reader::new(alloc, Device::new(text), limits(rt), 100);
+fn copy<W: Output>(rt: &impl Host, text: &[u8], w: &mut W) -> Option<bool> {
+    let made = Reader::new(rt.alloc(), Device::new(text), limits(rt), 100);
     let mut reader = made.expect(rt, "a reader");
     let is_copied = copy_all(&mut reader, w);
     drop(reader);
@@ -35,9 +33,9 @@ const TEXT: &[u8] =
     b"T0|w(a(b))|\nT0|fork(T1)|1\nT1|acq(l)|2\nT1|rel(l)|3\nT1|r(a(b))|\xff\nT0|join(T1)|4\n";
 
 /// In this room just so many bytes of the text are written.
-fn expect_copied(rt: &impl Abort, alloc: Global, room: Room, len: usize) {
+fn expect_copied(rt: &impl Host, room: Room, len: usize) {
     let mut page = Page::blank(room);
-    let is_copied = copy(rt, alloc, TEXT, &mut page);
+    let is_copied = copy(rt, TEXT, &mut page);
     let len = len.min(TEXT.len());
     let wanted = (Some(len == TEXT.len()), &TEXT[..len]);
     expect(rt, b"a text in parts", &(is_copied, page.bytes()), &wanted);
@@ -47,10 +45,10 @@ fn expect_copied(rt: &impl Abort, alloc: Global, room: Room, len: usize) {
 #[test]
 fn what_is_written_is_the_text_that_was_read(rt: HostRuntime) {
     for most in [3, 4096] {
-        expect_copied(&rt, rt.alloc(), Room::of(most, 4096), TEXT.len());
+        expect_copied(&rt, Room::of(most, 4096), TEXT.len());
     }
     for puts in 0..=TEXT.len() {
-        expect_copied(&rt, rt.alloc(), Room::of(1, puts), puts);
+        expect_copied(&rt, Room::of(1, puts), puts);
     }
 }
 
@@ -65,12 +63,8 @@ fn a_fault_line_is_written(rt: HostRuntime) {
         let is_written = write_fault(&mut page, 12, "Held").is_ok();
         let is_whole = puts == FAULT_LINE.len();
         let came = (is_written, page.failed, page.bytes());
-        expect(
-            &rt,
-            FAULT_LINE,
-            &came,
-            &(is_whole, !is_whole, &FAULT_LINE[..puts]),
-        );
+        let wanted = (is_whole, !is_whole, &FAULT_LINE[..puts]);
+        expect(&rt, FAULT_LINE, &came, &wanted);
     }
 }
 
@@ -80,8 +74,8 @@ fn fits_fault_line(room: &mut [u8]) -> bool {
 }
 
 /// Whether the line of an event is.
-fn fits_event(rt: &impl Abort, alloc: Global, room: &mut [u8]) -> Option<bool> {
-    copy(rt, alloc, b"T0|w(x)|1", &mut Device::new(room))
+fn fits_event(rt: &impl Host, room: &mut [u8]) -> Option<bool> {
+    copy(rt, b"T0|w(x)|1", &mut Device::new(room))
 }
 
 /// A slice takes what it has room for, and then nothing.
@@ -92,7 +86,7 @@ fn a_writer_that_takes_nothing_has_failed(rt: HostRuntime) {
         let bytes = &mut bytes[..room];
         let fits = (room, fits_fault_line(bytes));
         expect(&rt, b"a fault line", &fits, &(room, room >= 14));
-        let fits = (room, fits_event(&rt, rt.alloc(), bytes));
+        let fits = (room, fits_event(&rt, bytes));
         expect(&rt, b"an event", &fits, &(room, Some(room >= 10)));
     }
 }
