@@ -1,18 +1,14 @@
 //! The log that a script's threads leave: its events, written line by line with the names of the script.
-use crate::runs::{Answer, REPLAY, Run, SCRIPT, expect};
+use crate::runs::{Answer, Host, REPLAY, Run, SCRIPT, expect};
 use closed_report::is_named;
 use event_core::{Limits, Roots, ThreadId};
 use live_monitor::Closed;
 use rapid_text::{Device, Names, write_event};
 use script_drive::{DriveFault, FreeGate, Gate, drive};
 use script_text::Script;
-use std::process::Abort;
-use std::sync::Wait;
 use std::sync::atomic::{AtomicBool, Ordering};
 use std::thread;
-use std::thread::Threads;
 use test_doubles::{Page, Room, Text, rows};
-use wcp_tool::ScriptFiles;
 
 /// A script, the logs that its threads may leave, and their report.
 #[derive(Clone, Copy)]
@@ -61,10 +57,10 @@ fn write_events(page: &mut Page, closed: &Closed, names: &Names) -> bool {
 }
 
 /// Reads the script, runs it, and writes its log: whether it is written.
-fn write_log<G: Gate + Sync, R: Abort + AllocGlobal + Threads + Wait + Sync>(
-    rt: &R,
+fn write_log(
+    rt: &impl Host,
     case: &Case,
-    gate: &G,
+    gate: &(impl Gate + Sync),
     page: &mut Page,
 ) -> Result<bool, DriveFault> {
     let limits = Limits::new(2, 1, 2, 64, Roots::OnlyMain).expect(rt, "limits");
@@ -82,27 +78,13 @@ fn write_log<G: Gate + Sync, R: Abort + AllocGlobal + Threads + Wait + Sync>(
     written
 }
 
-/// That of the logs which is this one, or else the first.
-fn log_like(logs: &[&'static str], log: &str) -> &'static str {
-    for known in logs {
-        if *known == log {
-            return known;
-        }
-    }
-    logs.first().copied().unwrap_or("")
-}
-
 /// The log is written, it is one of those that are known, and a replay of its lines prints the report.
-fn expect_log<G: Gate + Sync, R: Abort + AllocGlobal + ScriptFiles + Threads + Wait + Sync>(
-    rt: &R,
-    case: &Case,
-    gate: &G,
-) {
+fn expect_log(rt: &impl Host, case: &Case, gate: &(impl Gate + Sync)) {
     let mut page = Page::blank(Room::AMPLE);
     let written = write_log(rt, case, gate, &mut page);
     let log = page.text();
-    let known = log_like(case.logs, log);
-    expect(rt, case.script, &(written, log), &(Ok(true), known));
+    let came = (written, log, case.logs.contains(&log));
+    expect(rt, case.script, &came, &(Ok(true), log, true));
     let run = Run::of(REPLAY, Text::whole(page.bytes()));
     run.expect(rt, Answer::of(case.report, 0));
 }

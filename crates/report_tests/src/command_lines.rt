@@ -1,5 +1,6 @@
 //! Command lines, and what is said of them.
-use crate::runs::{expect, ran_line};
+use crate::runs::Program::Words;
+use crate::runs::{Run, expect};
 use std::fmt::InlineText;
 use test_doubles::{Text, rows};
 use wcp_tool::settings;
@@ -108,7 +109,7 @@ fn is_narrow(text: &str) -> bool {
 #[test]
 fn each_command_line_is_answered(rt: HostRuntime) {
     for (words, part, status) in said() {
-        let ran = ran_line(&rt, words, Text::whole(TRACE));
+        let ran = Run::of(Words(words), Text::whole(TRACE)).ran(&rt);
         let (said, other) = if *status == 2 {
             (ran.errors.text(), ran.output.text())
         } else {

@@ -1,10 +1,9 @@
 //! Writers that fail, or take a part or nothing, by themselves and under a device; and readers under one.
-use crate::runs::{ALL, Answer, CHECK, Program, READ, REPLAY, Row, Run, WRITE, expect_rows};
-use std::process::Abort;
-use std::sync::Wait;
-use std::thread::Threads;
+use crate::runs::Program::{Piped, Words};
+use crate::runs::{
+    ALL, Answer, CHECK, CLOSED, Host, ONE_PUT, READ, REPLAY, Row, Run, WRITE, expect_rows,
+};
 use test_doubles::{Room, Text};
-use wcp_tool::ScriptFiles;
 
 /// Sections without a conflict.
 const TRACE: &str = "T0|fork(T1)|1\nT0|w(y)|2\nT0|acq(l)|3\nT0|w(x)|4\nT0|rel(l)|5\n\
@@ -21,19 +20,9 @@ const LINE: &str = "line 2: NotHolder\n";
 
 const STORE: &str = "T0|w(x)|1\n";
 
-const HELP: Program<'static> = Program::Words(&["--help"]);
-
-const VERSION: Program<'static> = Program::Words(&["--version"]);
-
-const HELP_OF_REPLAY: Program<'static> = Program::Words(&["replay", "--help"]);
-
 const BY_SEVEN: (usize, usize) = (7, usize::MAX);
 
 const BY_ONE: (usize, usize) = (1, usize::MAX);
-
-const ONE_PUT: (usize, usize) = (usize::MAX, 1);
-
-const CLOSED: (usize, usize) = (usize::MAX, 0);
 
 const ROWS: &[Row] = &[
     // A writer that takes the bytes in parts is asked again for what is left.
@@ -47,9 +36,9 @@ const ROWS: &[Row] = &[
     (CHECK, REFUSED, false, ONE_PUT, LINE, "", 3),
     (REPLAY, REFUSED, false, ONE_PUT, LINE, "", 3),
     // A pipe whose reader is gone takes no put.
-    (HELP, "", false, CLOSED, "", WRITE, 4),
-    (VERSION, "", false, CLOSED, "", WRITE, 4),
-    (HELP_OF_REPLAY, "", false, CLOSED, "", WRITE, 4),
+    (Words("--help"), "", false, CLOSED, "", WRITE, 4),
+    (Words("--version"), "", false, CLOSED, "", WRITE, 4),
+    (Words("replay --help"), "", false, CLOSED, "", WRITE, 4),
     (CHECK, STORE, false, CLOSED, "", WRITE, 4),
     (REPLAY, STORE, false, CLOSED, "", WRITE, 4),
     (REPLAY, "T0|rel(l)|1\n", false, CLOSED, "", WRITE, 4),
@@ -75,9 +64,9 @@ fn a_closed_pipe_ends_with_status_4_and_one_that_takes_a_part_does_not(rt: HostR
 
 /// A program whose text comes byte by byte, and whose output is taken so, for so many writes, writes just
 /// these bytes.
-fn expect_written<R: Abort + AllocGlobal + ScriptFiles + Threads + Wait + Sync>(
-    rt: &R,
-    command: &str,
+fn expect_written(
+    rt: &impl Host,
+    command: &'static str,
     (text, fails): (&str, bool),
     writer_fails: bool,
     answer: Answer<'_>,
@@ -88,7 +77,7 @@ fn expect_written<R: Abort + AllocGlobal + ScriptFiles + Threads + Wait + Sync>(
         fails: writer_fails,
     };
     let run = Run {
-        program: Program::Piped(&[command]),
+        program: Piped(command),
         text: Text::byte_by_byte(text.as_bytes()).failing(fails),
         rooms: (room, Room::AMPLE),
     };
@@ -109,11 +98,7 @@ const BROKEN: &[(&str, &str, &str, u8)] = &[
 fn a_device_tells_of_a_reader_that_fails(rt: HostRuntime) {
     for command in ["check", "replay"] {
         for (text, output, errors, status) in BROKEN {
-            let answer = Answer {
-                output,
-                errors,
-                status: *status,
-            };
+            let answer = Answer::new(output, errors, *status);
             expect_written(&rt, command, (text, true), true, answer);
         }
     }
@@ -135,12 +120,10 @@ fn a_device_tells_of_a_writer_that_takes_no_more(rt: HostRuntime) {
     for fails in [true, false] {
         for (command, text, output, status) in PRINTED {
             for writes in 0..=output.len() {
+                let written = str::from_utf8(&output.as_bytes()[..writes]).unwrap_or("");
                 let is_cut = writes < output.len();
-                let answer = Answer {
-                    output: str::from_utf8(&output.as_bytes()[..writes]).unwrap_or(""),
-                    errors: if is_cut { WRITE } else { "" },
-                    status: if is_cut { 4 } else { *status },
-                };
+                let (errors, status) = if is_cut { (WRITE, 4) } else { ("", *status) };
+                let answer = Answer::new(written, errors, status);
                 expect_written(&rt, command, (text, false), fails, answer);
             }
         }

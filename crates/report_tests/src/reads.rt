@@ -50,12 +50,8 @@ pub fn expect_wherever_cut(rt: &impl Abort, alloc: Global, text: Text<'_>, answe
         let mut page = Page::blank(Room::AMPLE);
         let fault = Command::Check.fault_of(rt, alloc, Text { first, ..text }, 100, &mut page);
         let came = (fault.is_none(), page.text());
-        expect(
-            rt,
-            text.name(),
-            &came,
-            &(answer.status <= 1, counts.as_str()),
-        );
+        let wanted = (answer.status <= 1, counts.as_str());
+        expect(rt, text.name(), &came, &wanted);
     }
 }
 
@@ -115,37 +111,11 @@ fn a_text_is_read_to_its_end_in_as_many_turns_as_it_takes(rt: HostRuntime) {
             (Command::Replay, *report),
         ] {
             let mut page = Page::blank(Room::AMPLE);
-            let came = command.fault_of(&rt, rt.alloc(), text, *turns, &mut page);
-            expect(
-                &rt,
-                text.name(),
-                &(came, page.text()),
-                &(fault_at(*line), output),
-            );
+            let fault = command.fault_of(&rt, rt.alloc(), text, *turns, &mut page);
+            let came = (fault, page.text());
+            expect(&rt, text.name(), &came, &(fault_at(*line), output));
         }
     }
-}
-
-fn counts(alloc: Global, limits: Limits) -> Result<Counts, ReplayFault> {
-    let mut page = Page::blank(Room::AMPLE);
-    check(
-        alloc,
-        &mut Pieces::of(Text::whole(LONG)),
-        &mut page,
-        limits,
-        2,
-    )
-}
-
-fn summary(alloc: Global, limits: Limits) -> Result<Summary, ReplayFault> {
-    let mut page = Page::blank(Room::AMPLE);
-    replay(
-        alloc,
-        &mut Pieces::of(Text::whole(LONG)),
-        &mut page,
-        limits,
-        2,
-    )
 }
 
 #[test]
@@ -163,7 +133,11 @@ fn what_is_counted_is_answered(rt: HostRuntime) {
         vars: 2,
         races: 3,
     };
-    let limits = limits(&rt);
-    expect(&rt, "a check", &counts(rt.alloc(), limits), &Ok(counted));
-    expect(&rt, "a replay", &summary(rt.alloc(), limits), &Ok(summed));
+    let (text, limits) = (Text::whole(LONG), limits(&rt));
+    let mut page = Page::blank(Room::AMPLE);
+    let counts = check(rt.alloc(), &mut Pieces::of(text), &mut page, limits, 2);
+    expect(&rt, "a check", &counts, &Ok(counted));
+    let mut page = Page::blank(Room::AMPLE);
+    let summary = replay(rt.alloc(), &mut Pieces::of(text), &mut page, limits, 2);
+    expect(&rt, "a replay", &summary, &Ok(summed));
 }

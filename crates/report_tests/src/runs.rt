@@ -1,6 +1,4 @@
 //! Runs of the program and of scripts, and what they come to.
-ghost use Rattle.std.specs.Prelude.{◌≡◌, false};
-
 use rapid_text::Device;
 use std::fmt::{Debug, InlineText};
 use std::process::Abort;
@@ -9,6 +7,11 @@ use std::thread::Threads;
 use test_doubles::{Page, Pieces, Room, Text};
 use wcp_tool::{Command, ScriptFiles, Settings, run_script, tool};
 
+/// What runs and tests of them may do.
+pub trait Host: Abort + AllocGlobal + ScriptFiles + Threads + Wait + Sync {}
+
+impl<R: Abort + AllocGlobal + ScriptFiles + Threads + Wait + Sync> Host for R {}
+
 /// Ends the test, unless what came is what was expected, with the case and both.
 pub fn expect<T: Debug + PartialEq>(rt: &impl Abort, case: &str, came: &T, expected: &T) {
     if came != expected {
@@ -16,25 +19,25 @@ pub fn expect<T: Debug + PartialEq>(rt: &impl Abort, case: &str, came: &T, expec
     }
 }
 
-/// What is run: the program over its words, by itself or with devices of std, or a script, a line of which is
-/// tried so often, and at least once.
+/// What is run: the program over the words of a line, or over one word and with devices of std, or a script, a
+/// line of which is tried so often, and at least once.
 #[derive(Clone, Copy)]
-pub enum Program<'a> {
-    Words(&'a [&'a str]),
-    Piped(&'a [&'a str]),
+pub enum Program {
+    Words(&'static str),
+    Piped(&'static str),
     Script(u32),
 }
 
-pub const CHECK: Program<'static> = Program::Words(&["check"]);
+pub const CHECK: Program = Program::Words("check");
 
-pub const REPLAY: Program<'static> = Program::Words(&["replay"]);
+pub const REPLAY: Program = Program::Words("replay");
 
-pub const SCRIPT: Program<'static> = Program::Script(1000000);
+pub const SCRIPT: Program = Program::Script(1000000);
 
 /// A run, with what it reads, and the room for what it writes to standard output and to standard error.
 #[derive(Clone, Copy)]
 pub struct Run<'a> {
-    pub program: Program<'a>,
+    pub program: Program,
     pub text: Text<'a>,
     pub rooms: (Room, Room),
 }
@@ -62,50 +65,42 @@ pub const READ_FAULT: Answer<'static> = Answer {
 };
 
 impl<'a> Answer<'a> {
-    /// Nothing is written to standard error.
-    pub fn of(output: &'a str, status: u8) -> Answer<'a> {
+    pub fn new(output: &'a str, errors: &'a str, status: u8) -> Answer<'a> {
         Answer {
             output,
-            errors: "",
+            errors,
             status,
         }
+    }
+
+    /// Nothing is written to standard error.
+    pub fn of(output: &'a str, status: u8) -> Answer<'a> {
+        Answer::new(output, "", status)
     }
 }
 
 impl Ran {
     pub fn answer(&self) -> Answer<'_> {
-        Answer {
-            output: self.output.text(),
-            errors: self.errors.text(),
-            status: self.status,
-        }
+        Answer::new(self.output.text(), self.errors.text(), self.status)
     }
 }
 
-/// The status with which a script ends.
-fn script_status<R: AllocGlobal + Threads + Wait + Sync>(
-    rt: &R,
-    patience: u32,
-    reader: &mut Pieces<'_>,
-    output: &mut Page,
-    errors: &mut Page,
-) -> u8
-    requires reads { reader.old.failed ≡ false }
-    requires writes { output.old.failed ≡ false }
-{
-    let settings = Settings {
-        command: Command::Check,
-        threads: 64,
-        patience: if patience == 0 { 1 } else { patience },
-    };
-    let status = run_script(rt, reader, output, errors, &settings);
-    drop(settings);
-    status
+/// The words of a line, of which there are at most eight, and how many there are.
+fn words_of(line: &str) -> ([&str; 8], usize) {
+    let mut words = [""; 8];
+    let mut count: usize = 0;
+    for word in line.split_whitespace() {
+        if count < 8 {
+            words[count] = word;
+            count += 1;
+        }
+    }
+    (words, count)
 }
 
 impl<'a> Run<'a> {
     /// A run with room for all that is written.
-    pub fn of(program: Program<'a>, text: Text<'a>) -> Run<'a> {
+    pub fn of(program: Program, text: Text<'a>) -> Run<'a> {
         Run {
             program,
             text,
@@ -113,21 +108,30 @@ impl<'a> Run<'a> {
         }
     }
 
-    pub fn ran<R: AllocGlobal + ScriptFiles + Threads + Wait + Sync>(&self, rt: &R) -> Ran {
+    pub fn ran(&self, rt: &impl Host) -> Ran {
         let mut reader = Pieces::of(self.text);
         let mut output = Page::blank(self.rooms.0);
         let mut errors = Page::blank(self.rooms.1);
         let status = match self.program {
-            Program::Words(words) => tool(rt, words, &mut reader, &mut output, &mut errors),
-            Program::Piped(words) => tool(
-                rt,
-                words,
-                &mut Device::new(reader),
-                &mut Device::new(&mut output),
-                &mut errors,
-            ),
+            Program::Words(line) => {
+                let (words, count) = words_of(line);
+                let words = &words[..count.min(8)];
+                tool(rt, words, &mut reader, &mut output, &mut errors)
+            }
+            Program::Piped(word) => {
+                let mut reader = Device::new(reader);
+                let mut output = Device::new(&mut output);
+                tool(rt, &[word], &mut reader, &mut output, &mut errors)
+            }
             Program::Script(patience) => {
-                script_status(rt, patience, &mut reader, &mut output, &mut errors)
+                let settings = Settings {
+                    command: Command::Check,
+                    threads: 64,
+                    patience: if patience == 0 { 1 } else { patience },
+                };
+                let status = run_script(rt, &mut reader, &mut output, &mut errors, &settings);
+                drop(settings);
+                status
             }
         };
         Ran {
@@ -138,30 +142,9 @@ impl<'a> Run<'a> {
     }
 
     /// The run answers so.
-    pub fn expect<R: Abort + AllocGlobal + ScriptFiles + Threads + Wait + Sync>(
-        &self,
-        rt: &R,
-        answer: Answer<'_>,
-    ) {
+    pub fn expect(&self, rt: &impl Host, answer: Answer<'_>) {
         expect(rt, self.text.name(), &self.ran(rt).answer(), &answer);
     }
-}
-
-/// The run of the program by the words of a line, of which there are at most eight.
-pub fn ran_line<R: AllocGlobal + ScriptFiles + Threads + Wait + Sync>(
-    rt: &R,
-    line: &str,
-    text: Text<'_>,
-) -> Ran {
-    let mut words = [""; 8];
-    let mut count: usize = 0;
-    for word in line.split_whitespace() {
-        if count < 8 {
-            words[count] = word;
-            count += 1;
-        }
-    }
-    Run::of(Program::Words(&words[..count.min(8)]), text).ran(rt)
 }
 
 /// What a check prints where a replay prints this: the counts without the races, or the line of a fault.
@@ -174,21 +157,14 @@ pub fn counts_of(report: &str) -> InlineText<128> {
 
 /// A replay of the text answers so, and a check likewise, with its counts in place of the report. A check
 /// ends with 0 where a replay reports a race.
-pub fn expect_both<R: Abort + AllocGlobal + ScriptFiles + Threads + Wait + Sync>(
-    rt: &R,
-    text: Text<'_>,
-    replayed: Answer<'_>,
-) {
+pub fn expect_both(rt: &impl Host, text: Text<'_>, replayed: Answer<'_>) {
     let counts = counts_of(replayed.output);
-    let checked = Answer {
-        output: counts.as_str(),
-        errors: replayed.errors,
-        status: if replayed.status == 1 {
-            0
-        } else {
-            replayed.status
-        },
+    let status = if replayed.status == 1 {
+        0
+    } else {
+        replayed.status
     };
+    let checked = Answer::new(counts.as_str(), replayed.errors, status);
     Run::of(CHECK, text).expect(rt, checked);
     Run::of(REPLAY, text).expect(rt, replayed);
 }
@@ -197,7 +173,7 @@ pub fn expect_both<R: Abort + AllocGlobal + ScriptFiles + Threads + Wait + Sync>
 /// many puts to standard output there may be, what the run writes to standard output and to standard error,
 /// and the status.
 pub type Row = (
-    Program<'static>,
+    Program,
     &'static str,
     bool,
     (usize, usize),
@@ -209,25 +185,22 @@ pub type Row = (
 /// As many puts as the run makes, each of as many bytes as it has.
 pub const ALL: (usize, usize) = (usize::MAX, usize::MAX);
 
+/// One put, and no more.
+pub const ONE_PUT: (usize, usize) = (usize::MAX, 1);
+
+pub const CLOSED: (usize, usize) = (usize::MAX, 0);
+
 pub const READ: &str = "read fault\n";
 
 pub const WRITE: &str = "write fault\n";
 
-pub fn expect_rows<R: Abort + AllocGlobal + ScriptFiles + Threads + Wait + Sync>(
-    rt: &R,
-    rows: &[Row],
-) {
+pub fn expect_rows(rt: &impl Host, rows: &[Row]) {
     for (program, text, fails, (most, puts), output, errors, status) in rows {
         let run = Run {
             program: *program,
             text: Text::whole(text.as_bytes()).failing(*fails),
             rooms: (Room::of(*most, *puts), Room::AMPLE),
         };
-        let answer = Answer {
-            output,
-            errors,
-            status: *status,
-        };
-        run.expect(rt, answer);
+        run.expect(rt, Answer::new(output, errors, *status));
     }
 }

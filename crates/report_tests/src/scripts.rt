@@ -1,6 +1,6 @@
 //! Scripts, and what a run of their threads prints.
-use crate::runs::Program::{self, Script};
-use crate::runs::{ALL, Answer, READ, Ran, Row, Run, SCRIPT, WRITE, expect, expect_rows, ran_line};
+use crate::runs::Program::{self, Script, Words};
+use crate::runs::{ALL, Answer, ONE_PUT, READ, Ran, Row, Run, SCRIPT, WRITE, expect, expect_rows};
 use std::fs;
 use std::fs::Files;
 use std::process::Abort;
@@ -75,9 +75,7 @@ const FREE: &str = "m rel l\n";
 
 const GIVEN_UP: &str = "line 3: Stuck\n";
 
-const MISSING: Program<'static> = Program::Words(&["run", "there/is/no/such/script"]);
-
-const ONE_PUT: (usize, usize) = (usize::MAX, 1);
+const MISSING: Program = Words("run there/is/no/such/script");
 
 const LESS: &str = "events 8 threads ";
 
@@ -184,10 +182,11 @@ fn write_script<R: Abort + AllocGlobal + Files>(rt: &R, text: &str) {
 fn a_script_in_a_file_is_run(rt: HostRuntime) {
     for (words, text, output, status) in IN_A_FILE {
         write_script(&rt, text);
-        let ran = ran_line(&rt, words, Text::whole(b""));
+        let ran = Run::of(Words(words), Text::whole(b"")).ran(&rt);
         expect(&rt, text, &ran.answer(), &Answer::of(output, *status));
     }
     write_script(&rt, RACE);
-    expect_race(&rt, &ran_line(&rt, "run a.script", Text::whole(b"")));
+    let run = Run::of(Words("run a.script"), Text::whole(b""));
+    expect_race(&rt, &run.ran(&rt));
     fs::remove_file(&rt, FILE).expect(&rt, "a file");
 }

@@ -1,19 +1,8 @@
 //! Witnesses of small traces, as another program found them and a person checked them.
 use crate::memory::expect_whole;
-use crate::runs::{ALL, Answer, Program, READ, Row, Run, WRITE, expect_rows};
+use crate::runs::Program::Words;
+use crate::runs::{ALL, Answer, CLOSED, READ, Row, Run, WRITE, expect_rows};
 use test_doubles::{Text, rows};
-
-const PAIRS: Program<'static> = Program::Words(&["witness"]);
-
-const EVENT_5: Program<'static> = Program::Words(&["witness", "5"]);
-
-const EVENT_6: Program<'static> = Program::Words(&["witness", "6"]);
-
-const EVENT_7: Program<'static> = Program::Words(&["witness", "7"]);
-
-const EVENT_8: Program<'static> = Program::Words(&["witness", "8"]);
-
-const EVENT_10: Program<'static> = Program::Words(&["witness", "10"]);
 
 /// A store before the first of two sections, and a load after the second.
 const HIDDEN: &str = "T0|fork(T1)|1\nT0|w(y)|2\nT0|acq(l)|3\nT0|w(x)|4\nT0|rel(l)|5\n\
@@ -33,61 +22,61 @@ const TWO_RACES: &str = "T0|acq(l)|1\nT0|fork(T1)|2\nT0|w(x)|a\nT0|rel(l)|4\nT0|
 
 const NO_RACE: &str = "T0|fork(T1)|1\nT0|w(x)|2\nT0|join(T1)|3\nT0|w(x)|4\n";
 
-/// What is asked for, the trace, what is printed, and the status.
-const WITNESSES: &[(Program<'static>, &str, &str, u8)] = rows! {
-    EVENT_8, HIDDEN, "T0|fork(T1)|1\nT1|acq(l)|6\nT1|rel(l)|7\nT0|w(y)|2\nT1|r(y)|8\n", 0;
+/// The words that ask, the trace, what is printed, and the status.
+const WITNESSES: &[(&str, &str, &str, u8)] = rows! {
+    "witness 8", HIDDEN, "T0|fork(T1)|1\nT1|acq(l)|6\nT1|rel(l)|7\nT0|w(y)|2\nT1|r(y)|8\n", 0;
     // The section that is needed for its store has to end.
-    EVENT_8, LOADED,
+    "witness 8", LOADED,
         "M|acq(l)|1\nM|w(y)|2\nM|rel(l)|3\nA|acq(l)|4\nA|rel(l)|5\nB|r(y)|7\nA|w(x)|6\nB|r(x)|8\n", 0;
     // The section of a store need not end.
-    EVENT_7, LOADED, "M|acq(l)|1\nM|w(y)|2\nB|r(y)|7\n", 0;
-    EVENT_7, FORKED, "none\n", 1;
+    "witness 7", LOADED, "M|acq(l)|1\nM|w(y)|2\nB|r(y)|7\n", 0;
+    "witness 7", FORKED, "none\n", 1;
     // A lock that is held where the log ends.
-    EVENT_6, "T0|fork(T1)|1\nT0|acq(l)|2\nT0|rel(l)|3\nT0|w(x)|4\nT1|acq(l)|5\nT1|w(x)|6\n",
+    "witness 6", "T0|fork(T1)|1\nT0|acq(l)|2\nT0|rel(l)|3\nT0|w(x)|4\nT1|acq(l)|5\nT1|w(x)|6\n",
         "T0|fork(T1)|1\nT0|acq(l)|2\nT0|rel(l)|3\nT1|acq(l)|5\nT0|w(x)|4\nT1|w(x)|6\n", 0;
     // Forks and a join on the way.
-    EVENT_6, "T0|fork(T1)|1\nT0|fork(T2)|2\nT1|w(y)|3\nT0|join(T1)|4\nT0|w(x)|5\nT2|r(x)|6\n",
+    "witness 6", "T0|fork(T1)|1\nT0|fork(T2)|2\nT1|w(y)|3\nT0|join(T1)|4\nT0|w(x)|5\nT2|r(x)|6\n",
         "T0|fork(T1)|1\nT0|fork(T2)|2\nT1|w(y)|3\nT0|join(T1)|4\nT0|w(x)|5\nT2|r(x)|6\n", 0;
     // A lock that is acquired twice.
-    EVENT_10,
+    "witness 10",
         "T0|w(x)|1\nT0|acq(l)|2\nT0|acq(l)|3\nT0|rel(l)|4\nT0|rel(l)|5\nT1|acq(l)|6\nT1|acq(l)|7\n\
         T1|rel(l)|8\nT1|rel(l)|9\nT1|r(x)|10\n",
         "T1|acq(l)|6\nT1|acq(l)|7\nT1|rel(l)|8\nT1|rel(l)|9\nT0|w(x)|1\nT1|r(x)|10\n", 0;
     // The load is the earlier of the two.
-    EVENT_5, "A|r(y)|1\nA|acq(l)|2\nA|rel(l)|3\nB|acq(l)|4\nB|w(y)|5\n", "B|acq(l)|4\nA|r(y)|1\nB|w(y)|5\n",
+    "witness 5", "A|r(y)|1\nA|acq(l)|2\nA|rel(l)|3\nB|acq(l)|4\nB|w(y)|5\n", "B|acq(l)|4\nA|r(y)|1\nB|w(y)|5\n",
         0;
     // Each pair of locations.
-    PAIRS, HIDDEN,
+    "witness", HIDDEN,
         "events 8 threads 2 locks 1 variables 2 races 1\nwitness 1 8|T1|r(y)|8 with 2|T0|w(y)|2\n", 1;
-    PAIRS, LOADED,
+    "witness", LOADED,
         "events 8 threads 3 locks 1 variables 2 races 2\nwitness 1 7|B|r(y)|7 with 2|M|w(y)|2\n\
         witness 1 8|B|r(x)|8 with 6|A|w(x)|6\n", 1;
-    PAIRS, FORKED, "events 7 threads 2 locks 1 variables 1 races 1\nnone 1 7|T1|w(x)|7 with 3|T0|w(x)|3\n",
+    "witness", FORKED, "events 7 threads 2 locks 1 variables 1 races 1\nnone 1 7|T1|w(x)|7 with 3|T0|w(x)|3\n",
         1;
-    PAIRS, TWO_RACES,
+    "witness", TWO_RACES,
         "events 9 threads 2 locks 1 variables 2 races 2\nwitness 2 9|T1|w(z)|b with 5|T0|w(z)|a\n", 1;
     // The locations in either order are one pair.
-    PAIRS, "A|w(x)|1\nB|w(x)|2\nA|w(x)|1\n",
+    "witness", "A|w(x)|1\nB|w(x)|2\nA|w(x)|1\n",
         "events 3 threads 2 locks 0 variables 1 races 2\nwitness 2 2|B|w(x)|2 with 1|A|w(x)|1\n", 1;
-    PAIRS, NO_RACE, "events 4 threads 2 locks 0 variables 1 races 0\n", 0;
+    "witness", NO_RACE, "events 4 threads 2 locks 0 variables 1 races 0\n", 0;
 };
 
-fn witnesses() -> &'static [(Program<'static>, &'static str, &'static str, u8)] {
+fn witnesses() -> &'static [(&'static str, &'static str, &'static str, u8)] {
     WITNESSES
 }
 
 #[test]
 fn witnesses_are_printed_and_races_without_one_are_named(rt: HostRuntime) {
-    for (program, text, output, status) in witnesses() {
-        let run = Run::of(*program, Text::whole(text.as_bytes()));
+    for (words, text, output, status) in witnesses() {
+        let run = Run::of(Words(words), Text::whole(text.as_bytes()));
         run.expect(&rt, Answer::of(output, *status));
     }
 }
 
 #[test]
 fn witnesses_are_printed_whole_or_not_at_all_where_memory_is_refused(rt: HostRuntime) {
-    for (program, text, output, status) in witnesses() {
-        expect_whole(&rt, *program, text, Answer::of(output, *status));
+    for (words, text, output, status) in witnesses() {
+        expect_whole(&rt, Words(words), text, Answer::of(output, *status));
     }
 }
 
@@ -97,20 +86,18 @@ const BAD: &str = "T0|rel(l)|1\n";
 
 const LINE: &str = "line 1: NotHolder\n";
 
-const CLOSED: (usize, usize) = (usize::MAX, 0);
-
 const FAULTS: &[Row] = &[
     // An event that does not race, and one that is not there.
-    (EVENT_6, HIDDEN, false, ALL, "", NOT_RACING, 2),
-    (EVENT_5, NO_RACE, false, ALL, "", NOT_RACING, 2),
+    (Words("witness 6"), HIDDEN, false, ALL, "", NOT_RACING, 2),
+    (Words("witness 5"), NO_RACE, false, ALL, "", NOT_RACING, 2),
     // Faults of the text and of devices.
-    (PAIRS, BAD, false, ALL, LINE, "", 3),
-    (EVENT_5, BAD, false, ALL, LINE, "", 3),
-    (PAIRS, HIDDEN, true, ALL, "", READ, 4),
-    (EVENT_8, HIDDEN, true, ALL, "", READ, 4),
-    (PAIRS, HIDDEN, false, CLOSED, "", WRITE, 4),
-    (EVENT_8, HIDDEN, false, CLOSED, "", WRITE, 4),
-    (EVENT_7, FORKED, false, CLOSED, "", WRITE, 4),
+    (Words("witness"), BAD, false, ALL, LINE, "", 3),
+    (Words("witness 5"), BAD, false, ALL, LINE, "", 3),
+    (Words("witness"), HIDDEN, true, ALL, "", READ, 4),
+    (Words("witness 8"), HIDDEN, true, ALL, "", READ, 4),
+    (Words("witness"), HIDDEN, false, CLOSED, "", WRITE, 4),
+    (Words("witness 8"), HIDDEN, false, CLOSED, "", WRITE, 4),
+    (Words("witness 7"), FORKED, false, CLOSED, "", WRITE, 4),
 ];
 
 #[test]

@@ -1,23 +1,16 @@
 //! The program on traces, each whole and in pieces.
 use crate::fed::expect_however_fed;
-use crate::runs::{Answer, Program, READ_FAULT, REPLAY, Run, expect, expect_both};
+use crate::runs::Program::Words;
+use crate::runs::{Answer, Host, READ_FAULT, REPLAY, Run, expect, expect_both};
 use crate::traces::{legal, nested, refused};
 use event_core::{Limits, Roots};
 use rapid_text::{Device, Reader, TextFault, write_event};
 use std::fmt::InlineText;
-use std::process::Abort;
-use std::sync::Wait;
-use std::thread::Threads;
 use test_doubles::{Page, Room, Text, letters, rows};
-use wcp_tool::ScriptFiles;
 
 /// A check and a replay of the text come to this, whole, byte by byte, and cut in two at each place; and so
 /// does a replayer, however it is fed.
-fn expect_however_cut<R: Abort + AllocGlobal + ScriptFiles + Threads + Wait + Sync>(
-    rt: &R,
-    text: &str,
-    answer: Answer<'_>,
-) {
+fn expect_however_cut(rt: &impl Host, text: &str, answer: Answer<'_>) {
     let bytes = text.as_bytes();
     for cut in 0..=bytes.len().max(1) {
         expect_both(rt, Text::however_cut(bytes, cut), answer);
@@ -46,13 +39,7 @@ fn the_first_refused_line_is_named_however_a_text_is_cut(rt: HostRuntime) {
 
 /// The text may end at each byte of the line. An operation is read once its second bar has come, and its
 /// location may be cut short.
-fn expect_beginnings<R: Abort + AllocGlobal + ScriptFiles + Threads + Wait + Sync>(
-    rt: &R,
-    text: &mut Page,
-    number: u64,
-    line: &str,
-    report: &str,
-) {
+fn expect_beginnings(rt: &impl Host, text: &mut Page, number: u64, line: &str, report: &str) {
     let fault = InlineText::<64>::of(format_args!("line {number}: FewFields\n"));
     let mut bars: u32 = 0;
     for byte in line.as_bytes() {
@@ -85,11 +72,11 @@ fn no_part_of_a_trace_is_told_whose_reader_fails(rt: HostRuntime) {
 }
 
 /// The words of a command, what is printed of a trace that names two threads, and the status.
-const THREADS: &[(&[&str], &str, u8)] = rows! {
-    &["check", "--threads", "1"], "line 1: TooManyNames\n", 3;
-    &["replay", "--threads", "1"], "line 1: TooManyNames\n", 3;
-    &["check", "--threads=2"], "events 1 threads 2 locks 0 variables 0\n", 0;
-    &["replay", "--threads=2"], "events 1 threads 2 locks 0 variables 0 races 0\n", 0;
+const THREADS: &[(&str, &str, u8)] = rows! {
+    "check --threads 1", "line 1: TooManyNames\n", 3;
+    "replay --threads 1", "line 1: TooManyNames\n", 3;
+    "check --threads=2", "events 1 threads 2 locks 0 variables 0\n", 0;
+    "replay --threads=2", "events 1 threads 2 locks 0 variables 0 races 0\n", 0;
 };
 
 #[test]
@@ -97,40 +84,28 @@ fn as_many_threads_are_admitted_as_the_option_says(rt: HostRuntime) {
     let text = b"T0|fork(T1)|1";
     for (words, output, status) in THREADS {
         for cut in 0..=text.len() {
-            let run = Run::of(Program::Words(words), Text::however_cut(text, cut));
+            let run = Run::of(Words(words), Text::however_cut(text, cut));
             run.expect(&rt, Answer::of(output, *status));
         }
     }
 }
 
-fn text_of_loads() -> Page {
+/// A store, and twenty loads by another thread. The lines of the report fill more than a page.
+#[test]
+fn a_long_report_is_written_whole(rt: HostRuntime) {
     let mut text = Page::blank(Room::AMPLE);
+    let mut report = Page::blank(Room::AMPLE);
     text.keep(b"T0|w(x)|1\n");
-    for _ in 2..22 {
+    report.keep(b"events 21 threads 2 locks 0 variables 1 races 20\n");
+    for number in 2..22u32 {
         text.keep(b"T1|r(x)|");
         text.keep(letters(255));
         text.keep(b"\n");
-    }
-    text
-}
-
-fn report_of_loads() -> Page {
-    let mut report = Page::blank(Room::AMPLE);
-    report.keep(b"events 21 threads 2 locks 0 variables 1 races 20\n");
-    for number in 2..22u32 {
         report.print(number);
         report.keep(b"|T1|r(x)|");
         report.keep(letters(255));
         report.keep(b" with 1|T0|w(x)|1\n");
     }
-    report
-}
-
-/// A store, and twenty loads by another thread. The lines of the report fill more than a page.
-#[test]
-fn a_long_report_is_written_whole(rt: HostRuntime) {
-    let text = text_of_loads();
-    let report = report_of_loads();
     expect_both(&rt, Text::whole(text.bytes()), Answer::of(report.text(), 1));
 }
 
@@ -141,12 +116,8 @@ fn a_thousand_lines_are_judged(rt: HostRuntime) {
     for _ in 0..250 {
         text.keep(b"T0|acq(l)|1\nT0|w(x)|2\nT0|r(y)|3\nT0|rel(l)|4\n");
     }
-    let report = "events 1000 threads 1 locks 1 variables 2 races 0\n";
-    expect_both(
-        &rt,
-        Text::cut(text.bytes(), 1001, 4001),
-        Answer::of(report, 0),
-    );
+    let answer = Answer::of("events 1000 threads 1 locks 1 variables 2 races 0\n", 0);
+    expect_both(&rt, Text::cut(text.bytes(), 1001, 4001), answer);
 }
 
 /// Writes the line of each event of the text: whether all are written.
