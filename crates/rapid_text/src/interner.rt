@@ -15,8 +15,8 @@ use std::marker::Model;
 /// The most bytes of a name whose copy takes no block of memory.
 const SHORT: usize = 16;
 
-/// Makes room for the entry of one more name, and in the set for as many names as then have places. New places
-/// are empty, so all names are put in again.
+/// Makes room for the entry of one more name, and in the set for as many names as then have places. New
+/// places are empty, so all names are put in again.
 fn prepare(
     names: &mut IndexSet<StoredName>,
     cache: &mut NumberCache,

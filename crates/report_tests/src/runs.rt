@@ -19,8 +19,8 @@ pub fn expect<T: Debug + PartialEq>(rt: &impl Abort, case: &str, came: &T, expec
     }
 }
 
-/// What is run: the program over the words of a line, or over one word and with devices of std, or a script, a
-/// line of which is tried so often, and at least once.
+/// What is run: the program over the words of a line, or over one word and with devices of std, or a script,
+/// a line of which is tried so often, and at least once.
 #[derive(Clone, Copy)]
 pub enum Program {
     Words(&'static str),

@@ -43,16 +43,16 @@ const WITNESSES: &[(&str, &str, &str, u8)] = rows! {
         T1|rel(l)|8\nT1|rel(l)|9\nT1|r(x)|10\n",
         "T1|acq(l)|6\nT1|acq(l)|7\nT1|rel(l)|8\nT1|rel(l)|9\nT0|w(x)|1\nT1|r(x)|10\n", 0;
     // The load is the earlier of the two.
-    "witness 5", "A|r(y)|1\nA|acq(l)|2\nA|rel(l)|3\nB|acq(l)|4\nB|w(y)|5\n", "B|acq(l)|4\nA|r(y)|1\nB|w(y)|5\n",
-        0;
+    "witness 5", "A|r(y)|1\nA|acq(l)|2\nA|rel(l)|3\nB|acq(l)|4\nB|w(y)|5\n",
+        "B|acq(l)|4\nA|r(y)|1\nB|w(y)|5\n", 0;
     // Each pair of locations.
     "witness", HIDDEN,
         "events 8 threads 2 locks 1 variables 2 races 1\nwitness 1 8|T1|r(y)|8 with 2|T0|w(y)|2\n", 1;
     "witness", LOADED,
         "events 8 threads 3 locks 1 variables 2 races 2\nwitness 1 7|B|r(y)|7 with 2|M|w(y)|2\n\
         witness 1 8|B|r(x)|8 with 6|A|w(x)|6\n", 1;
-    "witness", FORKED, "events 7 threads 2 locks 1 variables 1 races 1\nnone 1 7|T1|w(x)|7 with 3|T0|w(x)|3\n",
-        1;
+    "witness", FORKED,
+        "events 7 threads 2 locks 1 variables 1 races 1\nnone 1 7|T1|w(x)|7 with 3|T0|w(x)|3\n", 1;
     "witness", TWO_RACES,
         "events 9 threads 2 locks 1 variables 2 races 2\nwitness 2 9|T1|w(z)|b with 5|T0|w(z)|a\n", 1;
     // The locations in either order are one pair.
