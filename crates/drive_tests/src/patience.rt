@@ -1,7 +1,7 @@
 //! How often an acquire and a join are tried.
 ghost use Rattle.std.specs.Prelude.{◌≡◌};
 
-use crate::scripts::{Case, EVENTS, PATIENCE, expect_answer, limits, run};
+use crate::scripts::{EVENTS, PATIENCE, expect_answer, limits, run};
 use event_core::{LockId, SiteId, ThreadId};
 use live_monitor::{Tries, Unnamed, start};
 use log_pass::Name;
@@ -15,6 +15,7 @@ use std::sync::atomic::{AtomicBool, Ordering};
 use std::test::*;
 use std::thread;
 use std::thread::Threads;
+use test_doubles::rows;
 
 /// For how many yields a line is kept back at first, and how often these are doubled.
 const YIELDS: u32 = 256;
@@ -58,72 +59,55 @@ impl Gate for After {
     fn done(&self, _thread: ThreadId, _line: u64) {}
 }
 
-/// A script with a line that waits for another, and what is answered where it is tried once, too early, and
-/// where it is tried on.
-struct Waiting {
-    text: &'static str,
-    line: u64,
-    other: u64,
-    once: &'static str,
-    tried_on: &'static str,
-}
-
-const WAITING: &[Waiting] = &[
-    // an acquire of a lock that another thread releases later
-    Waiting {
-        text: "m acq l\nm fork a\na acq l\nm rel l\nm join a\n",
-        line: 3,
-        other: 4,
-        once: "Stuck { thread: ThreadId(1), line: 3 }",
-        tried_on: "5 events, 0 races\nT0 Acquire(LockId(0)) at 0: 0\nT0 Fork(ThreadId(1)) at 1: 0\n\
-            T0 Release(LockId(0)) at 3: 0\nT1 Acquire(LockId(0)) at 2: 0\nT0 Join(ThreadId(1)) at 4: 0",
-    },
-    // a join of a thread that ends later
-    Waiting {
-        text: "m fork a\na r x\nm join a\n",
-        line: 3,
-        other: 2,
-        once: "Stuck { thread: ThreadId(0), line: 3 }",
-        tried_on: "3 events, 0 races\nT0 Fork(ThreadId(1)) at 0: 0\nT1 Load(VarId(0)) at 1: 0\n\
-            T0 Join(ThreadId(1)) at 2: 0",
-    },
-];
-
-impl Waiting {
-    fn gate(&self, yields: u32) -> After {
+impl After {
+    fn of(first: u64, later: u64, yields: u32) -> After {
         After {
-            first: self.line,
-            later: self.other,
+            first,
+            later,
             yields,
             asked: AtomicBool::new(false),
         }
     }
+}
 
-    /// The line is tried once, and is stuck where it is tried too early. Where it was not, the other line is
-    /// kept back longer. For how many yields it then was.
-    fn yields_until_stuck<R: Threads + Wait + Abort + Sync>(&self, rt: &R, alloc: Global) -> u32 {
-        let case = Case {
-            patience: 1,
-            ..Case::of(self.text, self.once)
-        };
-        let mut yields = YIELDS;
-        for _ in 0..ROUNDS {
-            if run(rt, alloc, &self.gate(yields), &case).text() == case.answer {
-                return yields;
-            }
-            yields = yields.saturating_mul(2);
+/// A script, the line that waits, the line that it waits for, and what is answered where it is tried once,
+/// too early, and where it is tried on.
+const WAITING: &[(&str, u64, u64, &str, &str)] = rows! {
+    // an acquire of a lock that another thread releases later
+    "m acq l\nm fork a\na acq l\nm rel l\nm join a\n", 3, 4, "Stuck { thread: ThreadId(1), line: 3 }",
+        "5 events, 0 races\nT0 Acquire(LockId(0)) at 0: 0\nT0 Fork(ThreadId(1)) at 1: 0\n\
+        T0 Release(LockId(0)) at 3: 0\nT1 Acquire(LockId(0)) at 2: 0\nT0 Join(ThreadId(1)) at 4: 0";
+    // a join of a thread that ends later
+    "m fork a\na r x\nm join a\n", 3, 2, "Stuck { thread: ThreadId(0), line: 3 }",
+        "3 events, 0 races\nT0 Fork(ThreadId(1)) at 0: 0\nT1 Load(VarId(0)) at 1: 0\n\
+        T0 Join(ThreadId(1)) at 2: 0";
+};
+
+/// The line is tried once, and is stuck where it is tried too early. Where it was not, the other line is kept
+/// back longer. For how many yields it then was.
+fn yields_until_stuck<R: Threads + Wait + Abort + Sync>(
+    rt: &R,
+    alloc: Global,
+    (text, line, other, stuck): (&'static str, u64, u64, &'static str),
+) -> u32 {
+    let case = (text, EVENTS, 1, stuck);
+    let mut yields = YIELDS;
+    for _ in 0..ROUNDS {
+        if run(rt, alloc, &After::of(line, other, yields), case).text() == stuck {
+            return yields;
         }
-        expect_answer(rt, alloc, &self.gate(yields), &case);
-        yields
+        yields = yields.saturating_mul(2);
     }
+    expect_answer(rt, alloc, &After::of(line, other, yields), case);
+    yields
 }
 
 #[test]
 fn an_acquire_and_a_join_are_tried_again_as_long_as_patience_allows(rt: HostRuntime) {
-    for waiting in WAITING {
-        let yields = waiting.yields_until_stuck(&rt, rt.alloc());
-        let case = Case::of(waiting.text, waiting.tried_on);
-        expect_answer(&rt, rt.alloc(), &waiting.gate(yields), &case);
+    for (text, line, other, stuck, answer) in WAITING {
+        let yields = yields_until_stuck(&rt, rt.alloc(), (*text, *line, *other, *stuck));
+        let gate = After::of(*line, *other, yields);
+        expect_answer(&rt, rt.alloc(), &gate, (*text, EVENTS, PATIENCE, *answer));
     }
 }
 

@@ -5,10 +5,7 @@ use std::alloc::Global;
 use std::test::*;
 use test_doubles::rows;
 
-/// The text, the greatest number of events, the patience and the answer of a case.
-type Row = (&'static str, u64, u32, &'static str);
-
-const ROWS: &[Row] = rows! {
+const CASES: &[Case<'static>] = rows! {
     "", EVENTS, PATIENCE, "0 events, 0 races";
     // a thread without lines, and one that is not joined
     "m fork a\nm join a\nm fork b\nb r x\n", EVENTS, PATIENCE, "4 events, 0 races";
@@ -53,30 +50,21 @@ const ROWS: &[Row] = rows! {
         "Refused { thread: ThreadId(2), line: 6, refusal: NotHolder }";
 };
 
-fn worked_rows() -> &'static [Row] {
-    ROWS
-}
-
-fn case((text, events, patience, answer): Row) -> Case<'static> {
-    Case {
-        text,
-        events,
-        patience,
-        answer,
-    }
+fn cases() -> &'static [Case<'static>] {
+    CASES
 }
 
 #[test]
 fn scripts_are_run_to_their_end_or_a_fault(rt: HostRuntime) {
-    for row in worked_rows() {
-        expect_answer(&rt, rt.alloc(), &FreeGate, &case(*row));
+    for case in cases() {
+        expect_answer(&rt, rt.alloc(), &FreeGate, *case);
     }
 }
 
 #[test]
 fn scripts_are_run_to_their_end_or_a_fault_where_memory_is_refused(rt: HostRuntime) {
-    for row in worked_rows() {
-        expect_answer_in_the_end(&rt, rt.alloc(), &FreeGate, &case(*row));
+    for case in cases() {
+        expect_answer_in_the_end(&rt, rt.alloc(), &FreeGate, *case);
     }
 }
 
@@ -95,7 +83,7 @@ pub fn two_hundred(alloc: Global) -> Result<String, Fail> {
 #[test]
 pub fn two_hundred_workers_run_at_once(rt: HostRuntime) -> Result<(), Fail> {
     let text = two_hundred(rt.alloc())?;
-    let case = Case::of(text.as_str(), "597 events, 0 races");
-    expect_answer(&rt, rt.alloc(), &FreeGate, &case);
+    let case = (text.as_str(), EVENTS, PATIENCE, "597 events, 0 races");
+    expect_answer(&rt, rt.alloc(), &FreeGate, case);
     Ok(())
 }

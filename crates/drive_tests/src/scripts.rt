@@ -14,30 +14,12 @@ use test_doubles::{Page, Room, event_text};
 
 /// A script, how many events the log may have, how often a line is tried, and the answer: how many events
 /// the run logs, how many of them race, and the first of them, a line each; or the fault.
-#[derive(Clone, Copy)]
-pub struct Case<'t> {
-    pub text: &'t str,
-    pub events: u64,
-    pub patience: u32,
-    pub answer: &'static str,
-}
+pub type Case<'t> = (&'t str, u64, u32, &'static str);
 
 /// More events than the scripts have, and more tries than they need.
 pub const EVENTS: u64 = 1024;
 
 pub const PATIENCE: u32 = 100_000_000;
-
-impl<'t> Case<'t> {
-    /// A script with ample events and tries.
-    pub fn of(text: &'t str, answer: &'static str) -> Case<'t> {
-        Case {
-            text,
-            events: EVENTS,
-            patience: PATIENCE,
-            answer,
-        }
-    }
-}
 
 /// 256 threads, 4 locks, 4 variables.
 pub fn limits<R: Abort>(rt: &R, events: u64) -> Limits
@@ -72,16 +54,16 @@ pub fn run<G: Gate + Sync, R: Threads + Wait + Abort + Sync>(
     rt: &R,
     alloc: Global,
     gate: &G,
-    case: &Case<'_>,
+    (text, events, patience, answer): Case<'_>,
 ) -> Page {
     let mut page = Page::blank(Room::AMPLE);
-    let limits = limits(rt, case.events);
-    match read(alloc, case.text, limits) {
+    let limits = limits(rt, events);
+    match read(alloc, text, limits) {
         Ok(script) => {
-            let ran = drive(rt, alloc, &script, limits, gate, case.patience);
+            let ran = drive(rt, alloc, &script, limits, gate, patience);
             drop(script);
             match ran {
-                Ok(closed) => print_log(&mut page, closed, case.answer),
+                Ok(closed) => print_log(&mut page, closed, answer),
                 Err(fault) => page.print(format_args!("{fault:?}")),
             }
         }
@@ -91,14 +73,12 @@ pub fn run<G: Gate + Sync, R: Threads + Wait + Abort + Sync>(
 }
 
 /// Ends the test unless the page has the answer of the case.
-pub fn expect(rt: &impl Abort, page: &Page, case: &Case<'_>) {
+fn expect(rt: &impl Abort, page: &Page, (text, _, _, answer): Case<'_>) {
     let came = page.text();
-    if came != case.answer {
-        panic!(rt;
-            "{:?}: expected {:?}, came {came:?}",
-            case.text, case.answer
-        );
-    }
+    assert!(rt;
+        came == answer,
+        "{text:?}: expected {answer:?}, came {came:?}"
+    );
 }
 
 /// Runs the script of the case, which is to answer so.
@@ -106,7 +86,7 @@ pub fn expect_answer<G: Gate + Sync, R: Threads + Wait + Abort + Sync>(
     rt: &R,
     alloc: Global,
     gate: &G,
-    case: &Case<'_>,
+    case: Case<'_>,
 ) {
     expect(rt, &run(rt, alloc, gate, case), case);
 }
@@ -116,7 +96,7 @@ pub fn expect_answer_in_the_end<G: Gate + Sync, R: Threads + Wait + Abort + Sync
     rt: &R,
     alloc: Global,
     gate: &G,
-    case: &Case<'_>,
+    case: Case<'_>,
 ) {
     let page = run(rt, alloc, gate, case);
     if page.text().ends_with("OutOfMemory") || page.text().starts_with("NoWorker") {
