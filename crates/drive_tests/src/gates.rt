@@ -26,7 +26,12 @@ fn a_shut_gate_is_asked_as_often_as_patience_allows(rt: HostRuntime) {
     let gate = Shut {
         asked: AtomicU64::new(0),
     };
-    let case = ("m r x\n", EVENTS, 3, "Stuck { thread: ThreadId(0), line: 1 }");
+    let case = (
+        "m r x\n",
+        EVENTS,
+        3,
+        "Stuck { thread: ThreadId(0), line: 1 }",
+    );
     expect_answer(&rt, rt.alloc(), &gate, case);
     let asked = gate.asked.load(Ordering::SeqCst);
     assert_eq!(&rt; asked, 3, "so often the gate was asked");
@@ -105,6 +110,10 @@ fn a_gate_decides_the_order_of_the_lines_and_is_told_of_those_that_are_done(rt: 
         expect_answer(&rt, rt.alloc(), &gate, (*text, EVENTS, PATIENCE, *answer));
         let heard = gate.heard.load(Ordering::SeqCst);
         let others = gate.others.load(Ordering::SeqCst);
-        assert_eq!(&rt; (heard, others), (*count, 0), "what the gate of {text:?} was told");
+        assert_eq!(&rt;
+            (heard, others),
+            (*count, 0),
+            "what the gate of {text:?} was told"
+        );
     }
 }
