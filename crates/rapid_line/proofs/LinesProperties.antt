@@ -29,6 +29,7 @@ use Rattle.std.proofs.lemmas.Bool.{or_parts}
 use Rattle.std.proofs.lemmas.Bool.Decides.{nat_tests}
 use Rattle.rapid_line.specs.Cut.{has, Lacks, cut}
 use Rattle.rapid_line.specs.Lines.{Lines, onto_first, lines_of, line_start, to_come, Cuts, Keeps, IsTooLong}
+use Rattle.rapid_line.specs.Lines.{most_kept}
 use Rattle.rapid_line.proofs.CutProperties.{Lacks-append, IsCut-at, cut_None}
 
 -- what stands before the first LF is the first line, and the lines of the rest follow
@@ -128,20 +129,20 @@ end_within piece end rest e =
 
 -- a line that ended after more than 1,025 bytes is too long
 pub long_line : (old : Lines) (piece end rest : List ℕ) → Lacks 10 old.kept
-    → Some (end, rest) ≡ cut 10 piece → 1025 < length (old.kept ++ end) → IsTooLong old piece
+    → Some (end, rest) ≡ cut 10 piece → most_kept < length (old.kept ++ end) → IsTooLong old piece
 long_line old piece end rest lf e long =
     let c = IsCut-at 10 piece (end, rest) (sym e) in
     let start : line_start piece ≡ end =
     ap (λ (t : List ℕ). line_start t) c.is ∙ line_start-line end rest c.lacks in
     record {
-      long = subst (λ (t : List ℕ). 1025 < length (old.kept ++ t)) (sym start) long;
+      long = subst (λ (t : List ℕ). most_kept < length (old.kept ++ t)) (sym start) long;
       law = λ more.
           (old.kept ++ end, lines_of (rest ++ more), line_first old.kept piece end rest more lf e, long);
     }
 
-too_long : (bytes more : List ℕ) → Lacks 10 bytes → 1025 < length bytes
+too_long : (bytes more : List ℕ) → Lacks 10 bytes → most_kept < length bytes
     → (line : List ℕ) × (others : List (List ℕ)) × (lines_of (bytes ++ more) ≡ line ∷ others)
-    × (1025 < length line)
+    × (most_kept < length line)
 too_long [] more lf long = absurd (omega arith)
 too_long (x ∷ a) more lf long =
     let b = begins x a more lf in
@@ -150,11 +151,12 @@ too_long (x ∷ a) more lf long =
 
 -- a line that goes on after more than 1,025 bytes is too long
 pub long_rest : (old : Lines) (piece : List ℕ) → Lacks 10 old.kept → None ≡ cut 10 piece
-    → 1025 < length (old.kept ++ piece) → IsTooLong old piece
+    → most_kept < length (old.kept ++ piece) → IsTooLong old piece
 long_rest old piece lf e long =
     let none = cut_None 10 piece (sym e) in
     record {
-      long = subst (λ (t : List ℕ). 1025 < length (old.kept ++ t)) (sym (line_start-Lacks piece none)) long;
+      long = subst (λ (t : List ℕ). most_kept < length (old.kept ++ t))
+          (sym (line_start-Lacks piece none)) long;
       law = λ more.
           let found = too_long (old.kept ++ piece) more (Lacks-append 10 old.kept piece lf none) long in
           let text = ap (λ (t : List ℕ). lines_of t) (sym (append_assoc old.kept piece more)) in

@@ -51,6 +51,10 @@ no_bytes = record { unfinished = 1; kept = []; joined = []; taken = 0 }
 abbrev pub most : ℕ
 most = 1152921504606846976
 
+-- the most bytes that are kept of a line whose end was not seen: a content of 1,024 bytes, and a CR
+abbrev pub most_kept : ℕ
+most_kept = 1025
+
 -- the lines that are still to come, if these bytes follow
 abbrev pub to_come : Lines → List ℕ → List (List ℕ)
 to_come s more = lines_of (s.kept ++ more)
@@ -89,10 +93,10 @@ pub record Keeps (old : Lines) (piece : List ℕ) (new : Lines) : Type 0 where
 
 -- so many bytes came of a line that it is too long, whether its end was seen or not
 pub record IsTooLong (old : Lines) (piece : List ℕ) : Type 0 where
-  pub long : 1025 < length (old.kept ++ line_start piece)
+  pub long : most_kept < length (old.kept ++ line_start piece)
   -- whatever follows, the next line of the text is too long
   pub law : (more : List ℕ) → (line : List ℕ) × (others : List (List ℕ))
-      × (to_come old (piece ++ more) ≡ line ∷ others) × (1025 < length line)
+      × (to_come old (piece ++ more) ≡ line ∷ others) × (most_kept < length line)
 
 -- the text ended, and this is its last line
 pub record IsLastLine (old : Lines) (line : List ℕ) (new : Lines) : Type 0 where

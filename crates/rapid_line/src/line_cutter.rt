@@ -11,7 +11,7 @@ ghost use Rattle.std.specs.Prelude.{IfOk, IfSome, IfNone, OnOk, OnErr};
 ghost use Rattle.rapid_line.specs.Cut.{Lacks, cut};
 ghost use Rattle.rapid_line.specs.Marks.{IsKnown};
 ghost use Rattle.rapid_line.specs.Lines.{Lines, no_bytes, most, text_of, whole_or, IsKnownCut, Cuts, Keeps};
-ghost use Rattle.rapid_line.specs.Lines.{IsLastLine, IsTooLong};
+ghost use Rattle.rapid_line.specs.Lines.{most_kept, IsLastLine, IsTooLong};
 
 use crate::bytes::cut_at;
 use crate::marks::{Line, first_line};
@@ -74,8 +74,8 @@ fn search_line(bytes: &[u8]) -> Option<(Line<'_>, &[u8])>
 #[inline(never)]
 fn keep(kept: &mut ArrayVec<u8, MOST_KEPT>, bytes: &[u8]) -> Result<(), LineTooLong>
     ensures ok { OnOk result (kept.new.items ≡ kept.old.items ++ bytes.now) }
-    ensures short { OnOk result (length kept.new.items ≤ 1025) }
-    ensures long { OnErr result (1025 < length (kept.old.items ++ bytes.now)) }
+    ensures short { OnOk result (length kept.new.items ≤ most_kept) }
+    ensures long { OnErr result (most_kept < length (kept.old.items ++ bytes.now)) }
     ensures err { OnErr result (kept.new ≡ kept.old) }
 {
     let Ok(()) = kept.try_extend_from_slice(bytes) else {
@@ -96,7 +96,7 @@ fn whole_line<'a>(
     ensures known { IfOk result (λ l. IfSome l IsKnown) }
     ensures empty { OnOk result (kept.new.items ≡ []) }
     ensures parted { OnErr result (kept.old.items ≢ []) }
-    ensures long { OnErr result (1025 < length (kept.old.items ++ end.entry.bytes.now)) }
+    ensures long { OnErr result (most_kept < length (kept.old.items ++ end.entry.bytes.now)) }
     ensures err { OnErr result ((kept.new ≡ kept.old) × (joined.new ≡ joined.old)) }
 {
     if kept.is_empty() {
@@ -115,7 +115,7 @@ fn join(
 ) -> Result<(), LineTooLong>
     ensures line { OnOk result (joined.new.items ≡ kept.old.items ++ end.now) }
     ensures empty { OnOk result (kept.new.items ≡ []) }
-    ensures long { OnErr result (1025 < length (kept.old.items ++ end.now)) }
+    ensures long { OnErr result (most_kept < length (kept.old.items ++ end.now)) }
     ensures err { OnErr result ((kept.new ≡ kept.old) × (joined.new ≡ joined.old)) }
 {
     keep(kept, end)?;
@@ -146,7 +146,7 @@ impl Model for LineCutter {
       taken = s.taken;
     } };
 
-    ghost invariant = { λ s. Lacks 10 s.kept.items × (length s.kept.items ≤ 1025) × (s.taken ≤ most)
+    ghost invariant = { λ s. Lacks 10 s.kept.items × (length s.kept.items ≤ most_kept) × (s.taken ≤ most)
         × (s.unfinished + length s.kept.items ≤ s.taken + 1) };
 }
 
@@ -193,7 +193,7 @@ impl LineCutter {
         // It does not lie whole in the piece: bytes of it were kept, or its end was not seen.
         ensures parted { OnErr result (self.old.kept ≡ [] → Lacks 10 piece.entry.now) }
         // Of a line whose end was not seen no more is kept than this, and no LF.
-        ensures kept { length self.new.kept ≤ 1025 }
+        ensures kept { length self.new.kept ≤ most_kept }
         ensures unended { Lacks 10 self.new.kept }
     {
         let Some((line, rest)) = cut_line(piece) else {

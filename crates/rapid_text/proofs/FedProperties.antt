@@ -7,6 +7,7 @@ use Rattle.rapid_line.specs.Lines.{Lines, most, no_bytes, to_come}
 use Rattle.rapid_text.specs.Folds.{Folds, FaultAmong, FoldsAll, FaultIn}
 use Rattle.rapid_text.specs.Feeding.{FoldsEnded, OfText, StopsIn, Takes}
 use Rattle.rapid_text.specs.Taking.{Truncates, lines_place}
+use Rattle.rapid_text.specs.Turns.{most_turns}
 use Rattle.rapid_text.proofs.FoldsProperties.{folds_both, fault_later}
 use Rattle.rapid_text.proofs.TakesProperties.{takes_before, takes_more, takes_none, stops_later}
 use Rattle.rapid_text.proofs.TakingProperties.{truncates}
@@ -55,7 +56,7 @@ module _ {S : Type 0} (Step : S → ℕ → List ℕ → S → Type 0) where
 
   -- where a turn is left, there is room for the next piece
   pub fed_room : {left rest : Option (List ℕ)} {n : ℕ} {s t : S} {c : Lines} (turns : ℕ) (piece : List ℕ)
-      → Fed Step left rest n s t c → n < turns → turns ≤ 17592186044416 → length piece ≤ 65536
+      → Fed Step left rest n s t c → n < turns → turns ≤ most_turns → length piece ≤ 65536
       → c.taken + length piece ≤ most
   fed_room turns piece p within all few =
       let taken = p.takes.advances.taken in

@@ -16,7 +16,7 @@ use Rattle.rapid_text.proofs.BeginsAtProperties.{first_from}
 use Rattle.rapid_text.proofs.NameGrowth.{TablesGrow-trans}
 use Rattle.rapid_text.specs.Cutting.{Cutting, judged, most, Pushes, FailsAt, Closes, ClosesAt}
 use Rattle.rapid_text.specs.Pulling.{Pulling, pulling_of, to_judge, Follows, HasNoMore, Answers, NoAnswer}
-use Rattle.rapid_text.specs.Pulling.{TakeBytes, TakeFew}
+use Rattle.rapid_text.specs.Pulling.{window_size, TakeBytes, TakeFew}
 
 -- what is still to be judged of what a cutter keeps, what waits and what is left
 abbrev text_of : Cutting → List ℕ → Option (List ℕ) → Option Judgement
@@ -68,7 +68,7 @@ pub record Running (start : Pulling) (from : Option (List ℕ)) (c : Cutting) (w
   pub line : c.line ≡ start.line
   pub later : start.unfinished ≤ c.unfinished
   pub live : c.failed ≡ None
-  pub room : c.taken + length w + 4096 * turns ≤ most
+  pub room : c.taken + length w + window_size * turns ≤ most
   pub turns_left : turns ≤ start.turns
 
 -- after a push that took all, nothing waits
@@ -84,7 +84,7 @@ after_push {start} {from} {c} {d} {w} {used = used} {left = left} r p =
 -- no event, and the next piece came
 pub runs_on : {start : Pulling} {from : Option (List ℕ)} {c d : Cutting} {w v : List ℕ} {turns used : ℕ}
     {left rest : Option (List ℕ)} → Running start from c w turns left → Pushes c d w used None → 0 < turns
-    → Consumes left rest v → length v ≤ 4096 → Running start from d v (turns - 1) rest
+    → Consumes left rest v → length v ≤ window_size → Running start from d v (turns - 1) rest
 runs_on {start} {from} {d = d} {v = v} {left = left} {rest = rest} r p some k short = record {
   same = follows_fill (to_judge start from) d v left rest (after_push r p).1 k;
   line = p.line refl ∙ r.line;
@@ -203,7 +203,7 @@ ended_text p left e n =
 -- one more turn, which took bytes, and no more than a turn may take
 pub takes_more : (old new : ℕ) (left rest more : Option (List ℕ)) (v : List ℕ)
     → TakeBytes old left new rest × TakeFew old left new rest → Consumes rest more v → 0 < length v
-    → length v ≤ 4096 → 0 < new → TakeBytes old left (new - 1) more × TakeFew old left (new - 1) more
+    → length v ≤ window_size → 0 < new → TakeBytes old left (new - 1) more × TakeFew old left (new - 1) more
 takes_more old new None rest more v t c some few turn = (tt, tt)
 takes_more old new (Some l) None more v t c some few turn = absurd t.0
 takes_more old new (Some l) (Some r) None v t c some few turn = absurd c

@@ -2,7 +2,7 @@
 use Rattle.std.proofs.Common.{◌≡◌, ℕ, ◌<◌, ◌≤◌, List, [], ◌∷◌, ◌++◌, length, length-append, append_assoc}
 use Rattle.std.proofs.Common.{arith, ap, refl, subst, sym, ◌∙◌}
 use Rattle.rapid_line.specs.Cut.{Lacks}
-use Rattle.rapid_line.specs.Lines.{Lines, lines_of, to_come, Cuts, Keeps, IsLastLine, IsTooLong}
+use Rattle.rapid_line.specs.Lines.{Lines, most_kept, lines_of, to_come, Cuts, Keeps, IsLastLine, IsTooLong}
 use Rattle.rapid_line.proofs.LinesProperties.{keeps_law}
 use Rattle.rapid_text.specs.Folds.{Folds, FaultAmong}
 use Rattle.rapid_text.specs.Folds.Folds.{none, one_more}
@@ -61,7 +61,7 @@ module _ {S : Type 0} (Step : S → ℕ → List ℕ → S → Type 0) where
 
   -- no line ended
   pub takes_rest : {s : S} {c d : Lines} {piece : List ℕ} → Keeps c piece d → Lacks 10 d.kept
-      → length d.kept ≤ 1025 → Takes Step s c piece [] s d
+      → length d.kept ≤ most_kept → Takes Step s c piece [] s d
   takes_rest {c = c} {d = d} {piece = piece} k lf few = record {
     ended = [];
     law = keeps_law k;
@@ -91,7 +91,7 @@ module _ {S : Type 0} (Step : S → ℕ → List ℕ → S → Type 0) where
 
     -- it stops at a line that is too long
     pub stops_long : {s : S} {c : Lines} {piece : List ℕ} {f : F} → IsTooLong c piece
-        → ((line : List ℕ) → 1025 < length line → Stop s c.unfinished line f)
+        → ((line : List ℕ) → most_kept < length line → Stop s c.unfinished line f)
         → StopsIn Step Stop s c piece f
     stops_long {s} {c} {piece} {f} long h more =
         let next = long.law more in

@@ -3,7 +3,7 @@ use Rattle.std.proofs.Common.{◌≡◌, ℕ, ◌+◌, ◌≤◌, List, [], ◌�
 use Rattle.std.proofs.Common.{refl, sym, ap, subst, ◌∙◌, append_assoc, append-nil, arith}
 use Rattle.std.specs.Io.KnownBytes.{Consumes}
 use Rattle.rapid_line.specs.Cut.{Lacks, count, after_last}
-use Rattle.rapid_line.specs.Lines.{Lines, Cuts, Keeps}
+use Rattle.rapid_line.specs.Lines.{Lines, most_kept, Cuts, Keeps}
 use Rattle.rapid_line.proofs.CutProperties.{after_last-append, after_last-end, after_last-Lacks, count-append}
 use Rattle.rapid_line.proofs.CutProperties.{count-Lacks, IsCut-at}
 use Rattle.rapid_text.specs.Taking.{Place, lines_place, start, AreUnended, Advances, Truncates}
@@ -121,6 +121,6 @@ truncates left rest Why now So came bytes why took so =
       bytes = bytes;
       why = why;
       at = let lines = took.lines in omega (arith, lines);
-      short = subst (λ (b : List ℕ). length b ≤ 1025) kept unended.1;
+      short = subst (λ (b : List ℕ). length b ≤ most_kept) kept unended.1;
       so = so;
     }

@@ -7,6 +7,7 @@ use Rattle.rapid_text.specs.declared.causes.Cause.{Cause}
 use Rattle.rapid_text.specs.declared.causes.Cause.TheVariants as causes
 use Rattle.rapid_text.specs.declared.causes.TextFault.{TextFault}
 use Rattle.rapid_line.specs.Cut.{Lacks}
+use Rattle.rapid_line.specs.Lines.{most_kept}
 use Rattle.rapid_text.specs.Tables.{Tables}
 use Rattle.rapid_text.specs.Cutting.{Cutting, begun}
 use Rattle.rapid_text.specs.Texts.{Judgement, judge, lines_of, with_event, ended, StopsWith, FirstAt}
@@ -82,7 +83,7 @@ pub record ReadFails (old : Pulling) (left : Option (List ℕ)) (new : Pulling) 
   pub at : f.line ≡ new.unfinished
   pub text : Follows (to_judge old left) (λ j. j) (to_judge new rest)
   pub unjudged : Lacks 10 new.came
-  pub short : length new.came ≤ 1025
+  pub short : length new.came ≤ most_kept
 
 -- a growth was refused at the first line with an event, and at none that was judged before
 pub record GrowthFails (old : Pulling) (left : Option (List ℕ)) (f : TextFault) : Type 0 where
@@ -103,8 +104,12 @@ TakeBytes old None new rest = Unit {0}
 TakeBytes old (Some left) new None = ⊥
 TakeBytes old (Some left) new (Some rest) = old + length rest ≤ new + length left
 
+-- how many bytes a reader pulls at once
+abbrev pub window_size : ℕ
+window_size = 4096
+
 -- where the bytes that are left are known, they became fewer by no more than 4,096 for each turn
 abbrev pub TakeFew : ℕ → Option (List ℕ) → ℕ → Option (List ℕ) → Type 0
 TakeFew old None new rest = Unit {0}
 TakeFew old (Some left) new None = ⊥
-TakeFew old (Some left) new (Some rest) = length left + 4096 * new ≤ length rest + 4096 * old
+TakeFew old (Some left) new (Some rest) = length left + window_size * new ≤ length rest + window_size * old

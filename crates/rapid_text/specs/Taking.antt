@@ -2,7 +2,7 @@
 use Rattle.std.specs.Prelude.{◌≡◌, ℕ, ◌+◌, ◌≤◌, List, [], ◌++◌, length, Option}
 use Rattle.std.specs.Io.KnownBytes.{Consumes}
 use Rattle.rapid_line.specs.Cut.{Lacks, count, after_last}
-use Rattle.rapid_line.specs.Lines.{Lines}
+use Rattle.rapid_line.specs.Lines.{Lines, most_kept}
 use Rattle.rapid_text.specs.Cutting.{Cutting}
 
 -- the number and the bytes of the line whose end was not seen, and how many bytes came
@@ -24,7 +24,7 @@ start = record { unfinished = 1; kept = []; taken = 0 }
 -- the bytes of a line whose end was not seen: no LF, and no more of them than of a line that may be short
 -- enough
 abbrev pub AreUnended : List ℕ → Type 0
-AreUnended kept = Lacks 10 kept × (length kept ≤ 1025)
+AreUnended kept = Lacks 10 kept × (length kept ≤ most_kept)
 
 -- all bytes but the rest were taken
 pub record Advances (old : Place) (bytes rest : List ℕ) (new : Place) : Type 0 where
@@ -43,5 +43,5 @@ pub record Truncates (left rest : Option (List ℕ)) (Why : List ℕ → Type 0)
   pub why : Why came
   pub at : n ≡ 1 + count 10 came
   -- with one byte more than this it is too long
-  pub short : length (after_last 10 came) ≤ 1025
+  pub short : length (after_last 10 came) ≤ most_kept
   pub so : So came

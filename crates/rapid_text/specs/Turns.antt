@@ -1,6 +1,10 @@
 -- The turns of a text: how many pulls of its input were made, and why it was not read to its end.
 use Rattle.std.specs.Prelude.{◌≡◌, ℕ, ◌+◌, ◌^◌, ◌<◌, ◌≤◌, ◌⊎◌, List, length, Option, Some, None, Bool, true}
 
+-- the most turns of a text, 2 ^ 44: each gives 65,536 bytes at most, and so all of them 2 ^ 60
+abbrev pub most_turns : ℕ
+most_turns = 17592186044416
+
 -- n pulls were made, between these two counts of an input. An input need not count its pulls, nor more than
 -- 2^63 of them.
 abbrev pub PulledTimes : ℕ → Option ℕ → Option ℕ → Type 0

@@ -9,7 +9,7 @@ ghost use Rattle.std.specs.Prelude.{◌≡◌, ℕ, ◌+◌, ◌<◌, ◌≤◌,
 ghost use Rattle.std.specs.Prelude.{[], IfSome, unwrap_or};
 ghost use Rattle.std.specs.Result.{IsErrOf};
 ghost use Rattle.rapid_line.specs.Cut.{Lacks};
-ghost use Rattle.rapid_line.specs.Lines.{IsKnownCut, text_of};
+ghost use Rattle.rapid_line.specs.Lines.{most_kept, IsKnownCut, text_of};
 ghost use Rattle.rapid_text.specs.Tables.{TablesGrow};
 ghost use Rattle.rapid_text.specs.Events.{IsOfNames};
 ghost use Rattle.rapid_text.specs.Cutting.{Cutting, most, begun, Pushes, FailsAt, Closes, ClosesAt};
@@ -48,7 +48,7 @@ impl Model for Cutter {
       failed = s.failed;
     } };
 
-    ghost invariant = { λ s. Lacks 10 s.lines.kept × (length s.lines.kept ≤ 1025)
+    ghost invariant = { λ s. Lacks 10 s.lines.kept × (length s.lines.kept ≤ most_kept)
         × ((n : ℕ) → s.failed ≡ Some n → s.line ≡ n) };
 }
 
@@ -103,7 +103,7 @@ impl Cutter {
         ensures grows { TablesGrow self.old.names self.new.names }
         ensures named { IfOk result (λ r. IfSome r.1 (IsOfNames self.new.names)) }
         // No more than this is kept of a line whose end was not seen, and no LF.
-        ensures kept { length self.new.kept ≤ 1025 }
+        ensures kept { length self.new.kept ≤ most_kept }
         ensures unfinished { Lacks 10 self.new.kept }
     {
         if let Some(line) = self.failed {
@@ -160,7 +160,7 @@ impl Cutter {
         ensures line { IfErr result (λ f. self.new.line ≡ f.line) }
         ensures grows { TablesGrow self.old.names self.new.names }
         ensures named { IfOk result (λ e. IfSome e (IsOfNames self.new.names)) }
-        ensures kept { length self.new.kept ≤ 1025 }
+        ensures kept { length self.new.kept ≤ most_kept }
     {
         if let Some(line) = self.failed {
             return Err(TextFault {

@@ -7,7 +7,7 @@ ghost use Rattle.rapid_line.specs.Lines.{most, to_come};
 ghost use Rattle.rapid_text.specs.Folds.{Folds, FaultAmong, FoldsAll, FaultIn};
 ghost use Rattle.rapid_text.specs.Feeding.{FoldsEnded, OfText, StopsIn, Takes, WithinTurns};
 ghost use Rattle.rapid_text.specs.Taking.{Truncates};
-ghost use Rattle.rapid_text.specs.Turns.{IsCutShort, PulledWithin};
+ghost use Rattle.rapid_text.specs.Turns.{most_turns, IsCutShort, PulledWithin};
 
 use crate::input::Input;
 use crate::line_sink::LineSink;
@@ -65,7 +65,7 @@ pub fn take_text<I: Input, S: LineSink>(
     sink: &mut S,
     turns: u64,
 ) -> Result<Option<u64>, S::Fault>
-    requires turns { turns ≤ 17592186044416 }
+    requires turns { turns ≤ most_turns }
     // All lines of the text were taken, in order.
     ensures whole { IfOk result (λ r. IfNone r
         (OfText (I.left input.old) (λ text. FoldsAll S.takes sink.old text sink.new))) }

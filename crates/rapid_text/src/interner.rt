@@ -12,26 +12,16 @@ use indexmap::IndexSet;
 use std::alloc::{AllocError, Global};
 use std::marker::Model;
 
-/// The most bytes of a name whose copy takes no block of memory.
-const SHORT: usize = 16;
-
-/// Makes room for the entry of one more name, and in the set for as many names as then have places. New
-/// places are empty, so all names are put in again.
-fn prepare(
-    names: &mut IndexSet<StoredName>,
-    cache: &mut NumberCache,
-    alloc: Global,
-) -> Result<(), AllocError>
-    requires right { AreRight names.old.keys cache.old }
-    requires few { length names.old.keys + 1 < 2 ^ 32 }
-    ensures same { names.new.keys ≡ names.old.keys }
-    ensures kept { AreRight names.new.keys cache.new }
+/// Makes room for the entry of one more name. New places are empty, so all names are put in again.
+fn prepare(cache: &mut NumberCache, alloc: Global, names: &[StoredName]) -> Result<(), AllocError>
+    requires right { AreRight names.now cache.old }
+    requires few { length names.now + 1 < 2 ^ 32 }
+    ensures { AreRight names.now cache.new }
 {
     let count = names.len();
     if cache.has_room(count + 1) {
         return Ok(());
     }
-    names.reserve(3 * count + 4)?;
     cache.reset(alloc, count as u32 + 1)?;
     for number in 0..count {
         cache.put(names[number].as_slice(), number as u32);
@@ -116,23 +106,13 @@ impl Interner {
         self.limit - self.count() >= more
     }
 
-    /// The number of the name, or the fault where it has none.
-    #[tactic(auto, unfolding(crate::specs::Numbers::number_of))]
-    fn search_or(&mut self, name: &[u8], fault: NameFault) -> Result<u32, NameFault>
-        ensures ok { IfOk result (λ i. number_of self.old name.now ≡ Some (i, self.new)) }
-        ensures err { IfErr result (λ f. (f ≡ fault) × (found_number self.old name.now ≡ None)) }
-        ensures same { self.new ≡ self.old }
-    {
-        self.search(name).ok_or(fault)
-    }
-
     /// The number of the name in the set, which it joins where it is new. An `Err` changes nothing.
     fn insert(&mut self, name: &[u8]) -> Result<u32, AllocError>
         requires { length self.old.names < self.old.limit }
         ensures ok { IfOk result (λ i. number_of self.old name.now ≡ Some (i, self.new)) }
         ensures err { OnErr result (self.new ≡ self.old) }
     {
-        prepare(&mut self.names, &mut self.cache, self.alloc)?;
+        prepare(&mut self.cache, self.alloc, self.names.as_slice())?;
         let stored = StoredName::new(self.alloc, name)?;
         let (number, _) = self.names.insert_full(stored)?;
         self.cache.put(name, number as u32);
@@ -149,18 +129,13 @@ impl Interner {
         ensures err { OnErr result (self.new ≡ self.old) }
         ensures new_only { OnErr result (found_number self.old name.now ≡ None) }
     {
+        if let Some(number) = self.search(name) {
+            return Ok(number);
+        }
         if !self.allows(1) {
-            return self.search_or(name, NameFault::TooMany);
+            return Err(NameFault::TooMany);
         }
-        if name.len() > SHORT {
-            if let Some(number) = self.search(name) {
-                return Ok(number);
-            }
-        }
-        match self.insert(name) {
-            Ok(number) => Ok(number),
-            Err(AllocError) => self.search_or(name, NameFault::OutOfMemory),
-        }
+        self.insert(name).map_err(|_| NameFault::OutOfMemory)
     }
 
     /// The name of a number.

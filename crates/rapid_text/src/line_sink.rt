@@ -1,6 +1,7 @@
 //! What takes the lines of a text.
 ghost use Rattle.std.specs.Prelude.{ℕ, List, ◌<◌, length, OnOk, IfErr};
 ghost use Rattle.rapid_line.specs.Cut.{Lacks};
+ghost use Rattle.rapid_line.specs.Lines.{most_kept};
 ghost use Rattle.rapid_line.specs.Marks.{IsKnown};
 
 use rapid_line::Line;
@@ -25,5 +26,5 @@ pub trait LineSink {
 
     /// The fault of a line with more than 1,025 bytes, and so more than 1,024 of content.
     fn too_long(&self, number: u64) -> Self::Fault
-        ensures { (line : List ℕ) → 1025 < length line → stops self.now number line result };
+        ensures { (line : List ℕ) → most_kept < length line → stops self.now number line result };
 }

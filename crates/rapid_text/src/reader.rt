@@ -10,8 +10,8 @@ ghost use Rattle.rapid_text.specs.Cutting.{most, failed_at};
 ghost use Rattle.rapid_text.specs.Tables.{TablesGrow};
 ghost use Rattle.rapid_text.specs.Events.{IsOfNames};
 ghost use Rattle.rapid_text.specs.Pulling.{unpulled, Answers, NoAnswer, pulling_of, to_judge};
-ghost use Rattle.rapid_text.specs.Pulling.{TakeBytes, TakeFew};
-ghost use Rattle.rapid_text.specs.Turns.{PulledTimes};
+ghost use Rattle.rapid_text.specs.Pulling.{window_size, TakeBytes, TakeFew};
+ghost use Rattle.rapid_text.specs.Turns.{most_turns, PulledTimes};
 ghost use Rattle.rapid_text.specs.Texts.{BeginsAt};
 ghost use Rattle.rapid_text.specs.Reading.{Reading};
 
@@ -32,7 +32,7 @@ fn next_event<I: Input>(
     turns: &mut u64,
     ended: &mut bool,
 ) -> Result<Option<Event>, TextFault>
-    requires room { cutter.old.taken + length window.old + 4096 * turns.old ≤ most }
+    requires room { cutter.old.taken + length window.old + window_size * turns.old ≤ most }
     requires live { cutter.old.failed ≡ None }
     requires begun { ended.old ≡ false }
     ensures ok { IfOk result (Answers
@@ -50,7 +50,7 @@ fn next_event<I: Input>(
     ensures live { OnOk result (cutter.new.failed ≡ None) }
     ensures healthy { OnOk result (I.failed input.new ≡ I.failed input.old) }
     ensures told { IfErr result (λ f. f.cause ≢ Cause.Read → I.failed input.new ≡ I.failed input.old) }
-    ensures room { OnOk result (cutter.new.taken + length window.new + 4096 * turns.new ≤ most) }
+    ensures room { OnOk result (cutter.new.taken + length window.new + window_size * turns.new ≤ most) }
     ensures turns { turns.new ≤ turns.old }
     ensures pulls { PulledTimes (turns.old - turns.new) (I.pulls input.old) (I.pulls input.new) }
     ensures few { TakeFew turns.old (I.left input.old) turns.new (I.left input.new) }
@@ -105,7 +105,7 @@ impl<I: Input> Model for Reader<I> {
     } };
 
     ghost invariant = { λ r.
-        (r.cutter.failed ≡ None → r.cutter.taken + length r.window + 4096 * r.turns ≤ most)
+        (r.cutter.failed ≡ None → r.cutter.taken + length r.window + window_size * r.turns ≤ most)
         × (r.ended ≡ true → length r.cutter.kept + length r.window ≡ 0) };
 }
 
@@ -120,7 +120,7 @@ impl<I: Input> Reader<I> {
     ) -> Result<Reader<I>, OutOfMemory>
     where
         I: Drop,
-        requires turns { turns ≤ 17592186044416 }
+        requires turns { turns ≤ most_turns }
         requires works { I.failed inner ≡ false }
         ensures { IfOk result (λ r. r ≡ record {
           text = unpulled limits turns;

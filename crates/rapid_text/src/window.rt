@@ -3,6 +3,7 @@ ghost use Rattle.std.specs.Prelude.{◌≡◌, ℕ, ◌+◌, ◌-◌, ◌<◌, �
 ghost use Rattle.std.specs.Prelude.{OnErr};
 ghost use Rattle.std.specs.Result.{is_err};
 ghost use Rattle.std.specs.Io.KnownBytes.{Consumes, Keeps, IsAtEnd};
+ghost use Rattle.rapid_text.specs.Pulling.{window_size};
 ghost use Rattle.rapid_text.specs.Turns.{PulledTimes};
 
 use crate::input::{Input, ReadFailed};
@@ -27,7 +28,7 @@ impl Model for Window {
     ghost view = { λ w. take (w.to - w.from) (drop w.from w.bytes.items) };
 
     ghost invariant = { λ w. (w.from ≤ w.to) × (w.to ≤ length w.bytes.items)
-        × (length w.bytes.items ≡ 4096) };
+        × (length w.bytes.items ≡ window_size) };
 }
 
 impl Window {
@@ -64,7 +65,7 @@ impl Window {
         ensures bytes { IfOk result (λ n. Consumes (I.left input.old) (I.left input.new) self.new) }
         ensures end { IfOk result (λ n. n ≡ 0 → IsAtEnd (I.left input.new) × (self.new ≡ [])) }
         ensures len { IfOk result (λ n. length self.new ≡ n) }
-        ensures short { length self.new ≤ 4096 }
+        ensures short { length self.new ≤ window_size }
         ensures kept { OnErr result (Keeps (I.left input.old) (I.left input.new)) }
         ensures none { OnErr result (self.new ≡ []) }
         ensures failed { I.failed input.new ≡ (I.failed input.old || is_err result) }

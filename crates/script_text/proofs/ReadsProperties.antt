@@ -3,6 +3,7 @@ use Rattle.std.proofs.Common.{◌≡◌, ℕ, ◌+◌, ◌<◌, ◌≤◌, ◌++
 use Rattle.std.proofs.Common.{◌∙◌, sym, arith, ne_eqb, lt-ltb}
 use Rattle.std.specs.Prelude.{Result}
 use Rattle.rapid_line.specs.Cut.{content}
+use Rattle.rapid_line.specs.Lines.{most_kept}
 use Rattle.rapid_text.proofs.LongLines.{content_long}
 use Rattle.rapid_text.specs.Folds.{Folds}
 use Rattle.rapid_text.specs.Folds.Folds.{none, one_more}
@@ -66,6 +67,6 @@ unfolding after_content
 long_content s n bytes h = rw (ne_eqb (length bytes) 0 (λ z. omega arith), line_long bytes h) refl
 
 -- a line that is too long has that cause
-pub long_stops : (s : Parsed) (n : ℕ) (line : List ℕ) → 1025 < length line
+pub long_stops : (s : Parsed) (n : ℕ) (line : List ℕ) → most_kept < length line
     → Stops s n line (record { line = n; cause = causes.LineTooLong })
 long_stops s n line h = record { at = refl; why = long_content s n (content line) (content_long line h) }

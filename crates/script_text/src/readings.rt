@@ -1,7 +1,7 @@
 //! A script that is read line by line, however it is cut into pieces.
 ghost use Rattle.std.specs.Prelude.{◌≡◌, ◌≢◌, ◌≤◌, false, Ok, IfErr, IfOk, IfSome, OnOk};
 ghost use Rattle.rapid_text.specs.Feeding.{WithinTurns};
-ghost use Rattle.rapid_text.specs.Turns.{IsCutShort, PulledWithin};
+ghost use Rattle.rapid_text.specs.Turns.{most_turns, IsCutShort, PulledWithin};
 ghost use Rattle.script_text.specs.Scripts.{IsDraft, script_of};
 ghost use Rattle.script_text.specs.Readings.{IsFault};
 
@@ -69,7 +69,7 @@ pub fn read_lines<I: Input>(
     limits: Limits,
     turns: u64,
 ) -> Result<(Names, Vec<StoredLine>), ScriptFault>
-    requires turns { turns ≤ 17592186044416 }
+    requires turns { turns ≤ most_turns }
     requires works { I.failed reader.old ≡ false }
     ensures ok { IfOk result (λ r. IfSome (I.left reader.old) (λ text.
         script_of limits text ≡ Ok (record { names = r.0; lines = r.1.items }))) }

@@ -1,7 +1,7 @@
 //! Scripts that were read.
 ghost use Rattle.std.specs.Prelude.{◌≡◌, ◌≢◌, ℕ, ◌≤◌, length, IfOk, IfErr, IfSome, OnOk, Ok, false};
 ghost use Rattle.rapid_text.specs.Feeding.{WithinTurns};
-ghost use Rattle.rapid_text.specs.Turns.{IsCutShort, PulledWithin};
+ghost use Rattle.rapid_text.specs.Turns.{most_turns, IsCutShort, PulledWithin};
 ghost use Rattle.script_text.specs.Scripts.{Parsed, IsScript, IsFirstUnreached, IsDraft, script_of};
 ghost use Rattle.script_text.specs.Readings.{IsFault, Incomplete};
 
@@ -75,7 +75,7 @@ impl Script {
         limits: Limits,
         turns: u64,
     ) -> Result<Script, ScriptFault>
-        requires turns { turns ≤ 17592186044416 }
+        requires turns { turns ≤ most_turns }
         requires works { I.failed reader.old ≡ false }
         // The script is that of the text.
         ensures ok { IfOk result (λ s. IfSome (I.left reader.old) (λ text. script_of limits text ≡ Ok s)) }

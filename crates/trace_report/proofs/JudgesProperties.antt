@@ -5,6 +5,7 @@ use Rattle.std.specs.Prelude.{IfSome}
 use Rattle.event_core.specs.declared.bounds.Limits.{Limits}
 use Rattle.event_core.specs.declared.events.Event.{Event}
 use Rattle.rapid_line.specs.declared.words.LineFault.TheVariants.{LineTooLong}
+use Rattle.rapid_line.specs.Lines.{most_kept}
 use Rattle.rapid_text.specs.declared.causes.Cause.{Cause}
 use Rattle.rapid_text.specs.declared.causes.Cause.TheVariants as causes
 use Rattle.rapid_text.specs.declared.causes.TextFault.{TextFault}
@@ -101,7 +102,7 @@ stops_whole Before names n line (Text f) h = not_read f.cause _ h.why
 stops_whole Before names n line (Refused k r) h = refl
 
 -- a line that is too long has that fault
-pub long_stops : (names : Tables) (n : ℕ) (line : List ℕ) → 1025 < length line
+pub long_stops : (names : Tables) (n : ℕ) (line : List ℕ) → most_kept < length line
     → HasFault names n line (record { line = n; cause = causes.Line LineTooLong })
 long_stops names n line h =
     record { at = refl; why = reading_long names line h; memory = λ out. absurd (cc) }

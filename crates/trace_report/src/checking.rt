@@ -1,5 +1,6 @@
 //! The check of a trace, from the bytes of a reader to its one line.
 ghost use Rattle.std.specs.Prelude.{◌≡◌, ◌≢◌, ◌≤◌, Err, true, false};
+ghost use Rattle.rapid_text.specs.Turns.{most_turns};
 ghost use Rattle.trace_report.specs.Replayed.{answer_gives_up, IfFound};
 ghost use Rattle.trace_report.specs.Judging.{HasRead, RanOut, ReachesLine};
 ghost use Rattle.trace_report.specs.Checked.{ChecksText};
@@ -26,7 +27,7 @@ pub fn check<I: Input, O: Output>(
     limits: Limits,
     turns: u64,
 ) -> Result<Counts, ReplayFault>
-    requires turns { turns ≤ 17592186044416 }
+    requires turns { turns ≤ most_turns }
     requires reads { I.failed reader.old ≡ false }
     requires writes { O.failed writer.old ≡ false }
     // The answer is what the whole text comes to, read or left unread. The line that tells it is written, and

@@ -1,5 +1,6 @@
 //! The replay of a trace, from the bytes of a reader to its report.
 ghost use Rattle.std.specs.Prelude.{◌≡◌, ◌≢◌, ◌⊎◌, ◌≤◌, Err, true, false};
+ghost use Rattle.rapid_text.specs.Turns.{most_turns};
 ghost use Rattle.trace_report.specs.Replayed.{answer_gives_up, IfFound, TellsText};
 ghost use Rattle.trace_report.specs.Judging.{HasRead, RanOut, ReachesLine, line_of};
 
@@ -25,7 +26,7 @@ pub fn replay<I: Input, O: Output>(
     limits: Limits,
     turns: u64,
 ) -> Result<Summary, ReplayFault>
-    requires turns { turns ≤ 17592186044416 }
+    requires turns { turns ≤ most_turns }
     requires reads { I.failed reader.old ≡ false }
     requires writes { O.failed writer.old ≡ false }
     // What is written, and nothing else, tells what the whole text comes to, read or left unread, and so does

@@ -1,7 +1,7 @@
 //! A text that is judged whole, from an input.
 ghost use Rattle.std.specs.Prelude.{◌≡◌, ◌≤◌, [], true, IfErr, IfOk, OnOk};
 ghost use Rattle.rapid_text.specs.Feeding.{WithinTurns};
-ghost use Rattle.rapid_text.specs.Turns.{IsCutShort, PulledWithin};
+ghost use Rattle.rapid_text.specs.Turns.{most_turns, IsCutShort, PulledWithin};
 ghost use Rattle.trace_report.specs.Judging.{FindsTrace, FindsFault, IsTruncatedAt, is_read_fault};
 
 use crate::faults::TraceFault;
@@ -20,7 +20,7 @@ pub fn judge_text<I: Input, J: Judge + Drop>(
     turns: u64,
 ) -> Result<JudgedText<J>, TraceFault>
     requires begins { J.is_after judge limits [] }
-    requires turns { turns ≤ 17592186044416 }
+    requires turns { turns ≤ most_turns }
     // The text is a legal trace, and the judge is as after its log.
     ensures trace { IfOk result (λ t.
         FindsTrace limits (I.left reader.old) (J.is_after t.judge limits) t.names) }

@@ -9,7 +9,7 @@ use Rattle.command_line.specs.declared.requests.UsageFault.{UsageFault}
 use Rattle.command_line.specs.declared.requests.UsageFault.TheVariants as faults
 use Rattle.command_line.specs.Requests.{Kinds, Request, Text, asked, check, faults_of, is_answer}
 use Rattle.command_line.specs.Requests.{is_mistake, replay, run, witness}
-use Rattle.rapid_text.specs.Turns.{IsCutShort}
+use Rattle.rapid_text.specs.Turns.{most_turns, IsCutShort}
 use Rattle.script_text.specs.Readings.{ReadFails}
 use Rattle.trace_report.specs.declared.faults.ReplayFault.{ReplayFault}
 use Rattle.trace_report.specs.declared.faults.TraceFault.{TraceFault}
@@ -91,7 +91,7 @@ Performs opens text (run path) threads left old new status =
 
 -- why: a read failed, or 2^44 pulls were made
 abbrev pub IsUnread : Bool → Option ℕ → Option ℕ → List ℕ → Type 0
-IsUnread failed before after = IsCutShort 17592186044416 failed before after
+IsUnread failed before after = IsCutShort most_turns failed before after
 
 -- of a trace: no line that came whole has a fault or an event that is refused
 pub record TruncatesTrace (m : Limits) (left rest : Option (List ℕ)) (Why : List ℕ → Type 0) : Type 0 where

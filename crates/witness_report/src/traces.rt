@@ -1,5 +1,6 @@
 //! Witnesses for the races of a trace, from the bytes of a reader to what is written.
 ghost use Rattle.std.specs.Prelude.{◌≡◌, ◌≢◌, ◌≤◌, Ok, Err, IfErr, IsSome, true, false};
+ghost use Rattle.rapid_text.specs.Turns.{most_turns};
 ghost use Rattle.trace_report.specs.Replayed.{answer_gives_up};
 ghost use Rattle.trace_report.specs.Reports.{AreNamed};
 ghost use Rattle.trace_report.specs.Judging.{HasRead};
@@ -55,7 +56,7 @@ pub fn show_trace<I: Input, O: Output>(
     turns: u64,
     event: Option<u32>,
 ) -> Result<Shown, ReplayFault>
-    requires turns { turns ≤ 17592186044416 }
+    requires turns { turns ≤ most_turns }
     requires reads { I.failed reader.old ≡ false }
     requires writes { O.failed writer.old ≡ false }
     // What is written, and nothing else, is for the whole text, read or left unread, and so is the answer. A
