@@ -1,5 +1,5 @@
 pub mod LogOfProperties
 mod RetryLaws
 mod RulesProperties
-mod StepsAdded
-mod MayFollowProperties
+mod IsAddedProperties
+mod MayComeProperties

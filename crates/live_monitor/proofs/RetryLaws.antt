@@ -11,7 +11,7 @@ use Rattle.event_core.specs.declared.steps.Step.TheVariants.{One}
 use Rattle.event_core.specs.Refusal.{event_of}
 use Rattle.event_core.specs.Steps.{log_of, own_events}
 use Rattle.log_pass.specs.declared.views.PassView.{PassView}
-use base.Growing.{prefix_trans}
+use Rattle.log_pass.proofs.Prefixes.{prefix_trans}
 use Rattle.live_monitor.specs.Calls.{acquire_by, Answers, HasComeTo}
 use Rattle.live_monitor.specs.Rules.{HasOwn, MayAdd}
 
@@ -21,7 +21,7 @@ pub record HasTried (before now : PassView) : Type 0 where
   pub begins : IsPrefix before.seen now.seen
   pub mine : now.mine ≡ before.mine
 
--- it may be made again after them
+-- an acquire that may be added may also be added after tries that were not accepted
 pub may_add_again : (keeps : List Event → Type 0) {p q : PassView} (l : LockId) (site : SiteId) → HasTried p q
     → MayAdd keeps p (acquire_by p.thread l site) → MayAdd keeps q (acquire_by q.thread l site)
 may_add_again keeps {p} {q} l site tried may log own kept =
@@ -30,7 +30,7 @@ may_add_again keeps {p} {q} l site tried may log own kept =
     subst (λ t. keeps (log ++ event_of log (acquire_by t l site) ∷ [])) (sym tried.same_thread)
     (may log its kept)
 
--- what the last try is answered holds of all
+-- the answer to the last try of an acquire is the answer to the acquire as a whole
 pub answers_all : (m : Limits) {p q : PassView} (r : PassView) (l : LockId) (site : SiteId)
     (answer : Result Reply Refusal) → HasTried p q → Answers m (acquire_by q.thread l site) q r answer
     → Answers m (acquire_by p.thread l site) p r answer

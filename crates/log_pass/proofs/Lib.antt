@@ -2,4 +2,3 @@ pub mod Prefixes
 pub mod Totals
 pub mod AgreeProperties
 pub mod TableSteps
-pub mod Seats
