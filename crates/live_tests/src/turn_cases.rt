@@ -73,15 +73,15 @@ const CASES: &[Case] = rows! {
     "a refused handle serves, and a lock is acquired within so many tries", 1, 16, rows! {
         Main, Fork, "0: 0 Clear";
         Child, Try { times: 1, most: 1 }, "1, 1 tries";
-        Main, Try { times: 1000, most: 1 }, "Held { by: ThreadId(1) }, 1 tries";
-        Main, Try { times: 1, most: 1000 }, "Held { by: ThreadId(1) }, 1000 tries";
+        Main, Try { times: 1000, most: 1 }, "Held { by: ThreadId(1) }, 1 of 1 tries";
+        Main, Try { times: 1, most: 1000 }, "Held { by: ThreadId(1) }, 1000 of 1000 tries";
         Main, Look, "2 events";
         Child, Call(Release(0)), "2: 0 Clear";
         Main, Try { times: 1, most: 1000 }, "3, 1 tries";
         Main, Call(Release(0)), "4: 0 Clear";
         Child, Try { times: 1, most: 0 }, "5, 0 tries";
         Child, Drop, "dropped";
-        Main, Try { times: 1, most: 10 }, "Held { by: ThreadId(1) }, 10 tries";
+        Main, Try { times: 1, most: 10 }, "Held { by: ThreadId(1) }, 10 of 10 tries";
         Main, Call(Store(0, 5)), "6: 5 Clear";
     }, "7 events";
     "the event that a verdict names is read at once", 1, 16, rows! {

@@ -68,7 +68,7 @@ fn attempt<N: Name, R: Wait>(rt: &R, thread: &mut TracedThread<N>, most: u32) ->
     let mut tries = Tries::of(most);
     match thread.acquire_within(rt, LockId(0), SITE, &mut tries) {
         Ok(reply) => AnswerText::of(format_args!("{}, {} tries", reply.index, tries.made())),
-        Err(refusal) => AnswerText::of(format_args!("{refusal:?}, {} tries", tries.made())),
+        Err(refusal) => AnswerText::of(format_args!("{refusal:?}, {tries}")),
     }
 }
 
