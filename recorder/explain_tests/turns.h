@@ -1,15 +1,31 @@
 /* Turns that no recorder sees: by them a program runs by one schedule, and nothing is ordered by them. */
 #include <pthread.h>
+#include <sys/syscall.h>
 #include <unistd.h>
 
-static volatile int taken;
+static volatile int taken, leaving;
 
+/* The fence keeps the processor from stamping what comes next before the turn was seen. */
 __attribute__((no_sanitize("thread"), noinline)) static void await(int turn)
 {
     while (taken < turn) usleep(1000);
+    __builtin_ia32_lfence();
 }
 
 __attribute__((no_sanitize("thread"), noinline)) static void pass(int turn)
 {
     taken = turn;
+}
+
+/* The thread that calls it is the one whose end is awaited. */
+__attribute__((no_sanitize("thread"), noinline)) static void leave(void)
+{
+    leaving = syscall(SYS_gettid);
+}
+
+/* Then the system knows the thread no more, and its stack and its blocks are there for others. */
+__attribute__((no_sanitize("thread"), noinline)) static void await_end(void)
+{
+    while (!leaving || syscall(SYS_tgkill, getpid(), leaving, 0) == 0) usleep(1000);
+    leaving = 0;
 }

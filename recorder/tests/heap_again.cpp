@@ -1,7 +1,7 @@
 // Races: heap
 // Both threads store into `shared`. Each also stores into a block of its own, without a lock, and the second
 // gets the memory that the first freed: those do not race.
-#include <chrono>
+#include "../explain_tests/turns.h"
 #include <cstdio>
 #include <cstdlib>
 #include <thread>
@@ -16,13 +16,14 @@ static void work(int number)
     blocks[number] = own;
     std::free(own);
     *shared = number;
+    leave();
 }
 
 int main()
 {
     shared = static_cast<int *>(std::malloc(sizeof(int)));
     std::thread first(work, 0);
-    std::this_thread::sleep_for(std::chrono::milliseconds(300));
+    await_end();
     std::thread second(work, 1);
     first.join();
     second.join();

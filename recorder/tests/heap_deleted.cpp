@@ -1,6 +1,6 @@
 // Races: heap
 // An object is used by one thread, and deleted by another.
-#include <chrono>
+#include "../explain_tests/turns.h"
 #include <thread>
 
 struct Account {
@@ -10,8 +10,11 @@ struct Account {
 int main()
 {
     Account *account = new Account;
-    std::thread worker([account] { account->balance = 2; });
-    std::this_thread::sleep_for(std::chrono::milliseconds(50));
+    std::thread worker([account] {
+        account->balance = 2;
+        pass(1);
+    });
+    await(1);
     delete account;
     worker.join();
 }

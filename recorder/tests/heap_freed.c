@@ -1,10 +1,9 @@
 /* Races: heap
  * One thread uses two blocks; another stores into the first by snprintf, and frees the second. */
-#include <pthread.h>
+#include "../explain_tests/turns.h"
 #include <stdio.h>
 #include <stdlib.h>
 #include <string.h>
-#include <unistd.h>
 
 static char *text;
 static int *number;
@@ -12,6 +11,7 @@ static int *number;
 static void *work(void *unused)
 {
     printf("%zu %d\n", strlen(text), *number);
+    pass(1);
     return unused;
 }
 
@@ -22,7 +22,7 @@ int main(void)
     number = malloc(sizeof *number);
     *number = 1;
     pthread_create(&thread, NULL, work, NULL);
-    usleep(100000);
+    await(1);
     snprintf(text, 6, "%s", "bye");
     free(number);
     pthread_join(thread, NULL);

@@ -1,12 +1,12 @@
 /* Races: heap
  * A block is used by one thread, and another makes it longer, which moves it. */
-#include <pthread.h>
+#include "../explain_tests/turns.h"
 #include <stdlib.h>
-#include <unistd.h>
 
 static void *work(void *block)
 {
     *(volatile int *)block = 2;
+    pass(1);
     return NULL;
 }
 
@@ -15,7 +15,7 @@ int main(void)
     pthread_t thread;
     int *volatile block = malloc(sizeof *block);
     pthread_create(&thread, NULL, work, block);
-    usleep(50000);
+    await(1);
     block = realloc(block, 1 << 20);
     pthread_join(thread, NULL);
     free(block);

@@ -1,16 +1,16 @@
 /* Races: none
  * A block is used to the length that malloc_usable_size answers, and its memory is given out again. */
+#include "../explain_tests/turns.h"
 #include <malloc.h>
-#include <pthread.h>
 #include <stdio.h>
 #include <stdlib.h>
-#include <unistd.h>
 
 static void *work(void *given)
 {
     volatile char *block = given;
     block[17] = 1;
     free(given);
+    leave();
     return NULL;
 }
 
@@ -21,7 +21,7 @@ int main(void)
     volatile char *other = NULL;
     pthread_create(&thread, NULL, work, block);
     pthread_detach(thread);
-    usleep(100000);
+    await_end();
     for (int i = 0; i < 20 && other != block; i++) {
         other = malloc(16);
         if (malloc_usable_size((void *)other) > 17)

@@ -1,7 +1,7 @@
 // Races: announced
 // The schedule hides the race: ThreadSanitizer is silent. Threads that take one lock, one after the other,
 // with unrelated work in the sections.
-#include <chrono>
+#include "../explain_tests/turns.h"
 #include <cstdio>
 #include <mutex>
 #include <thread>
@@ -13,10 +13,13 @@ int main()
 {
     std::thread writer([] {
         announced = 3;
-        std::lock_guard<std::mutex> held(mutex);
-        first++;
+        {
+            std::lock_guard<std::mutex> held(mutex);
+            first++;
+        }
+        pass(1);
     });
-    std::this_thread::sleep_for(std::chrono::milliseconds(50));
+    await(1);
     std::thread reader([] {
         {
             std::lock_guard<std::mutex> held(mutex);

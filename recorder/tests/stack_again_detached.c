@@ -1,7 +1,6 @@
 /* Races: none
  * Detached threads, which nothing orders, take over each other's stacks. */
-#include <pthread.h>
-#include <unistd.h>
+#include "../explain_tests/turns.h"
 
 static void fill(volatile char *own)
 {
@@ -13,6 +12,7 @@ static void *work(void *unused)
 {
     volatile char own[200];
     fill(own);
+    leave();
     return unused;
 }
 
@@ -22,8 +22,7 @@ int main(void)
         pthread_t thread;
         pthread_create(&thread, NULL, work, NULL);
         pthread_detach(thread);
-        usleep(5000);
+        await_end();
     }
-    usleep(20000);
     return 0;
 }

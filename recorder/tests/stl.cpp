@@ -2,7 +2,7 @@
 // Levels: -O1 -O2
 // At -O0 the accesses of std::map are in libstdc++, which is not instrumented: the sections on the mutex look
 // empty, and are not ordered.
-#include <chrono>
+#include "../explain_tests/turns.h"
 #include <cstdio>
 #include <map>
 #include <mutex>
@@ -39,8 +39,11 @@ int main()
 {
     registry = new Registry;
     registry->names.reserve(4);
-    std::thread loader([] { registry->add("ann", 3); });
-    std::this_thread::sleep_for(std::chrono::milliseconds(50));
+    std::thread loader([] {
+        registry->add("ann", 3);
+        pass(1);
+    });
+    await(1);
     std::thread user([] { std::printf("%zu\n", registry->look("ann")); });
     loader.join();
     user.join();
