@@ -1,21 +1,22 @@
 /* Accesses that look repeated, and of which a report names each: between them the bytes were accessed by
  * another thread, or at another place, or the thread is in a section. repeats.py compares the report with
  * that of all accesses. */
-#include <pthread.h>
+#include "../explain_tests/turns.h"
 #include <stdlib.h>
 #include <string.h>
-#include <unistd.h>
 
-/* Turns that no recorder sees. */
-static volatile int turn;
-__attribute__((no_sanitize("thread"), noinline)) static void await(int wanted)
+/* The thread that spins looks so often before the store comes that it waits for; then it looks slowly. */
+enum { LOOKS = 2000 };
+static volatile int looks;
+__attribute__((no_sanitize("thread"), noinline)) static void look(void)
 {
-    while (turn < wanted)
+    if (++looks > LOOKS)
         usleep(100);
 }
-__attribute__((no_sanitize("thread"), noinline)) static void pass(int next)
+__attribute__((no_sanitize("thread"), noinline)) static void await_looks(void)
 {
-    turn = next;
+    while (looks < LOOKS)
+        usleep(1000);
 }
 
 static volatile long places, between, in_section, guarded, mixed, spun;
@@ -61,7 +62,7 @@ static void *first(void *given)
         await(2 * round + 5);
     }
     while (!spun)
-        ;
+        look();
     return given;
 }
 
@@ -84,7 +85,7 @@ static void *second(void *given)
     pass(11);
     await(12);
     pass(13);
-    usleep(20000);
+    await_looks();
     spun = 1;
     return given;
 }
