@@ -1,5 +1,6 @@
 /* Races: none
- * A handler of a signal that interrupts a thread in a section runs on that thread. */
+ * A handler of a signal that interrupts a thread in a section runs on that thread. Main, which alone gets the
+ * signals, goes on until some came. */
 #include <pthread.h>
 #include <signal.h>
 #include <stdio.h>
@@ -16,14 +17,14 @@ static void count(int number)
     alarms++;
 }
 
-static void *work(void *unused)
+static void *work(void *gets_signals)
 {
-    for (int i = 0; i < 2000; i++) {
+    for (int i = 0; i < 2000 || (gets_signals && alarms < 3); i++) {
         pthread_mutex_lock(&mutex);
         counter++;
         pthread_mutex_unlock(&mutex);
     }
-    return unused;
+    return NULL;
 }
 
 int main(void)
@@ -42,7 +43,7 @@ int main(void)
     pthread_create(&thread, NULL, work, NULL);
     pthread_sigmask(SIG_UNBLOCK, &alarm_alone, NULL);
     setitimer(ITIMER_REAL, &often, NULL);
-    work(NULL);
+    work(&action);
     setitimer(ITIMER_REAL, &never, NULL);
     pthread_join(thread, NULL);
     printf("%d\n", counter);
