@@ -19,7 +19,7 @@ LINE = re.compile(r'recorder: (\d+) events? of (\d+) threads? on (\d+) variables
 
 def builds(shown):
     """Builds the library where it is not there, and a copy by each compiler, which may not warn."""
-    done = run(['make', '-s', '-C', room.RECORDER], timeout=300)
+    done = run(['make', '-s', '-C', room.RECORDER])
     if not shown.tell('make -C recorder', done.returncode == 0, done.stderr):
         return False
     for compiler in room.COMPILERS:
@@ -27,7 +27,7 @@ def builds(shown):
             continue
         copy = os.path.join(shown.room, 'made_by_' + compiler)
         shutil.copytree(room.RECORDER, copy, ignore=shutil.ignore_patterns('lib', 'tests', '__pycache__'))
-        done = run(['make', '-s', '-C', copy, f'CC={compiler}'], timeout=300)
+        done = run(['make', '-s', '-C', copy, f'CC={compiler}'])
         is_made = done.returncode == 0 and not done.stderr
         shown.tell(f'make -C recorder by {compiler}, without warnings', is_made, done.stderr)
     return True
@@ -69,7 +69,8 @@ def is_linked(shown, folder, what, *options, compiler='gcc'):
 
 def show_line(shown, folder):
     """The line of counts is that of the trace, and the program's output and status are its own."""
-    app, error = build(folder, HIDDEN, '-fsanitize=thread')
+    sleep = os.path.join(HERE, 'sleep_until_alone.cpp')
+    app, error = build(folder, HIDDEN, '-fsanitize=thread', sleep)
     trace = os.path.join(folder, 'trace.txt')
     done = run([*RECORD, app], cwd=folder)
     shown.tell('hidden_race builds and runs', not error and done.returncode == 0, error or done)
@@ -189,12 +190,12 @@ def show_signals(shown, folder):
                                  stderr=subprocess.PIPE, preexec_fn=heed_signals)
         child.stdout.read(5)
         child.send_signal(number)
-        said = child.communicate(timeout=60)[1].decode()
+        said = child.communicate(timeout=room.LIMIT)[1].decode()
         shown.tell(f'{number.name}: the status', child.returncode == status, (child.returncode, said))
         refused, report = shown.judge(os.path.join(folder, 'signal.txt'))
         shown.tell(f'{number.name}: the race', len(report) > 1, (refused, said))
     kills = f'{app} > ready & while [ ! -s ready ]; do sleep 0.1; done; kill -KILL $!; wait $!'
-    done = run([*RECORD, '-o', 'killed.txt', 'sh', '-c', kills], cwd=folder, timeout=60)
+    done = run([*RECORD, '-o', 'killed.txt', 'sh', '-c', kills], cwd=folder)
     left = [path for path in glob.glob(os.path.join(folder, 'killed.txt*')) if '.part' not in path]
     is_so = done.returncode == 125 and 'killed' in done.stderr and not left
     shown.tell('a process that is killed', is_so, (done.returncode, done.stderr, left))
@@ -249,9 +250,9 @@ def show_files(shown, folder):
     os.mkfifo(fifo)
     with open(os.path.join(folder, 'from_fifo'), 'wb') as taken:
         reader = subprocess.Popen(['cat', fifo], stdout=taken)
-        done = run([*RECORD, '-o', fifo, app], cwd=folder, timeout=30)
+        done = run([*RECORD, '-o', fifo, app], cwd=folder)
         try:
-            reader.wait(timeout=10)
+            reader.wait(timeout=room.LIMIT)
         except subprocess.TimeoutExpired:
             reader.kill()
     shown.tell('a FIFO: the status', done.returncode == 3, (done.returncode, done.stderr))

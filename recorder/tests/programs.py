@@ -69,7 +69,7 @@ class Case:
     def differs(self, number):
         """How the run with this number is not as it has to be, or nothing."""
         trace = os.path.join(self.folder, f'trace{number}')
-        done = room.run([*room.RECORD, '-o', trace, self.app], timeout=60, cwd=self.folder)
+        done = room.run([*room.RECORD, '-o', trace, self.app], cwd=self.folder)
         status = int(self.wanted.get('Status', 0))
         status = 125 if 'Cut' in self.wanted else 128 - status if status < 0 else status
         if done.returncode != status:
@@ -94,7 +94,7 @@ class Case:
         """Waits for the traces of processes that go on; then says which is half written."""
         names = re.findall(r'goes on, and writes (\S+) when', said)
         awaited = [os.path.join(self.folder, name) for name in names]
-        until = time.monotonic() + 20
+        until = time.monotonic() + room.LIMIT
         while time.monotonic() < until:
             left = [path for path in awaited if not os.path.exists(path)]
             if not left:
@@ -104,15 +104,18 @@ class Case:
         return f'{left} left; {said}' if left else ''
 
     def judge(self):
-        """Whether five runs are as they have to be."""
+        """Whether five runs are as they have to be. After one that hangs there is no other."""
         if (error := self.build()):
             return self.shown.tell(self.name, False, f'does not build: {error}')
         files = [self.app] + [self.app + '.so'] * ('Library' in self.wanted)
         self.tables = {os.path.basename(path): room.symbols(path) for path in files}
-        found = [self.differs(number) for number in range(RUNS)]
+        found = []
+        while len(found) < RUNS and not any('still running' in text for text in found):
+            found.append(self.differs(len(found)))
         failures = sorted({text for text in found if text})
         how_often = sum(map(bool, found))
-        return self.shown.tell(self.name, not failures, f'{how_often} of {RUNS} runs: {"; ".join(failures)}')
+        text = f'{how_often} of {len(found)} runs: {"; ".join(failures)}'
+        return self.shown.tell(self.name, not failures, text)
 
     def sanitizer(self):
         """The variables that ThreadSanitizer itself names in one run. Of gcc's builds alone, since clang's

@@ -11,6 +11,8 @@ RECORDER = os.path.dirname(os.path.dirname(os.path.realpath(__file__)))
 TOP = os.path.dirname(RECORDER)
 LIBRARIES = os.path.join(RECORDER, 'lib')
 RECORD = [sys.executable, os.path.join(RECORDER, 'record')]
+# Seconds after which a command hangs: many times what a slow, busy machine takes for any.
+LIMIT = 3600
 COMPILERS = {'gcc': ('gcc', 'g++'), 'clang': ('clang', 'clang++')}
 
 
@@ -49,7 +51,7 @@ class Shown:
         return '', done.stdout.splitlines()
 
 
-def run(words, timeout=120, **how):
+def run(words, timeout=LIMIT, **how):
     """Runs a command to its end, with its output as text. One that takes too long has status 124, one that is
     not there 127."""
     how = {'stdin': subprocess.DEVNULL, 'stdout': subprocess.PIPE, 'stderr': subprocess.PIPE, **how}
