@@ -158,12 +158,13 @@ void close_files(void) {
 
 static const char *last(const char *name) { return strrchr(name, '/') + 1; }
 
-/* Gives the files their names, by the folder that was opened: it may not be found by its path any more. */
+/* Gives the files their names, the trace last: who waits for it finds all. By the folder that was opened: it
+ * may not be found by its path any more. */
 void name_now(void) {
     if (is_direct || is_named) return;
     is_named = 1;
-    if (renameat(folder, last(part), folder, last(path)) != 0) complain("the trace could not be named");
     if (beside >= 0) renameat(folder, last(info_part), folder, last(info));
+    if (renameat(folder, last(part), folder, last(path)) != 0) complain("the trace could not be named");
 }
 
 /* Before the right to do so is given up. */
