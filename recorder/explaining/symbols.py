@@ -136,11 +136,12 @@ class Symbols:
 
 
 def _table_of(path):
-    """The symbols of data, by their addresses: (begins, [(name, size, declared)])."""
-    for options in (['-l'], [], ['-D']):
+    """The symbols of data, by their addresses: (begins, [(name, size, declared)]). Their lines are left out
+    where they take long to find, as in a large file."""
+    for options, limit in ((['-l'], 5), ([], None), (['-D'], None)):
         try:
             done = subprocess.run(['nm', '-C', '-S', '-n', '--defined-only', *options, path], text=True,
-                                  capture_output=True, errors='backslashreplace', timeout=5)
+                                  capture_output=True, errors='backslashreplace', timeout=limit)
         except (OSError, subprocess.TimeoutExpired):
             continue
         found = []
