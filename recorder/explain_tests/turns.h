@@ -5,11 +5,12 @@
 
 static volatile int taken, leaving;
 
-/* The fence keeps the processor from stamping what comes next before the turn was seen. */
+/* The last sleep parts the events before the turn from those after it by more than the time stamps of two
+ * processors differ. */
 __attribute__((no_sanitize("thread"), noinline)) static void await(int turn)
 {
     while (taken < turn) usleep(1000);
-    __builtin_ia32_lfence();
+    usleep(1000);
 }
 
 __attribute__((no_sanitize("thread"), noinline)) static void pass(int turn)
