@@ -36,7 +36,7 @@ int main(void)
     thrd_create(&thread, work, NULL);
     call_once(&flag, make);
     timespec_get(&until, TIME_UTC);
-    until.tv_sec += 60;
+    until.tv_sec += 3600;
     if (mtx_timedlock(&mutex, &until) != thrd_success)
         return 1;
     while (!ready)

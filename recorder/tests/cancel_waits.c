@@ -39,7 +39,7 @@ static void *in_timed_wait(void *unused)
 {
     struct timespec until;
     clock_gettime(CLOCK_REALTIME, &until);
-    until.tv_sec += 60;
+    until.tv_sec += 3600;
     pthread_mutex_lock(&mutex);
     pthread_cleanup_push(undo_held, NULL);
     for (;;)

@@ -21,7 +21,7 @@ int main(void)
     for (int i = 0; i < 3; i++)
         pthread_create(&threads[i], NULL, work, &stored[i]);
     clock_gettime(CLOCK_REALTIME, &until);
-    until.tv_sec += 60;
+    until.tv_sec += 3600;
     while (pthread_tryjoin_np(threads[0], NULL) != 0)
         sched_yield();
     if (pthread_timedjoin_np(threads[1], NULL, &until) != 0)

@@ -14,7 +14,7 @@ static void *work(void *unused)
 {
     struct timespec until;
     clock_gettime(CLOCK_REALTIME, &until);
-    until.tv_sec += 60;
+    until.tv_sec += 3600;
     for (int i = 0; i < 20; i++) {
         while (pthread_mutex_trylock(&recursive) != 0)
             sched_yield();

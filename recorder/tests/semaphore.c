@@ -14,7 +14,7 @@ static void *take(void *unused)
 {
     struct timespec until;
     clock_gettime(CLOCK_REALTIME, &until);
-    until.tv_sec += 60;
+    until.tv_sec += 3600;
     for (int i = 0; i < 10; i++) {
         if (sem_timedwait(&is_full, &until) != 0)
             return NULL;

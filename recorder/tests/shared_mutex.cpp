@@ -18,7 +18,7 @@ static std::atomic<int> readers{0};
 static int read_both(int i)
 {
     std::shared_lock<std::shared_mutex> held(mutex);
-    std::shared_lock<std::shared_timed_mutex> timed_held(timed, std::chrono::seconds(60));
+    std::shared_lock<std::shared_timed_mutex> timed_held(timed, std::chrono::hours(1));
     if (i == 0)
         racy++;
     return kept + timed_kept;
@@ -27,7 +27,7 @@ static int read_both(int i)
 static void write_both()
 {
     std::unique_lock<std::shared_mutex> held(mutex);
-    std::unique_lock<std::shared_timed_mutex> timed_held(timed, std::chrono::seconds(60));
+    std::unique_lock<std::shared_timed_mutex> timed_held(timed, std::chrono::hours(1));
     kept++;
     timed_kept++;
 }
