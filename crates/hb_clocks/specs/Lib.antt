@@ -1,4 +1,5 @@
 pub mod Counts
+pub mod Halves
 pub mod Holds
 pub mod Marks
 pub mod Released

@@ -103,11 +103,12 @@ impl ReleaseClocks {
             (counts_of release.now) }
         ensures most { self.old.most ≤ self.new.most }
     {
-        let counts = release.counts();
+        let low = release.low();
+        let before = (release.at(by) - 1) as u32;
         let start = self.numbers.len();
-        push_before(&mut self.numbers, counts, by);
+        push_before(&mut self.numbers, low, by, before);
         ReleasePlace {
-            width: counts.len() as u32,
+            width: low.len() as u32,
             start,
         }
     }
