@@ -144,7 +144,9 @@ impl Clock {
     {
         let at = thread.0 as usize;
         self.numbers.set(at, count);
-        self.used = self.used.max(at + 1);
+        if self.used <= at {
+            self.used = at + 1;
+        }
     }
 
     // The number of a thread grows by one.
@@ -155,6 +157,8 @@ impl Clock {
     {
         let at = thread.0 as usize;
         self.numbers.increment(at);
-        self.used = self.used.max(at + 1);
+        if self.used <= at {
+            self.used = at + 1;
+        }
     }
 }
