@@ -2,6 +2,8 @@
 ghost use Rattle.std.specs.Prelude.{◌≡◌, ◌+◌, ◌<◌, ◌≤◌, ◌↔◌, List, [], ◌∷◌, ◌++◌, length, IsOk, IsTrue, OnOk};
 ghost use Rattle.event_core.specs.declared.bounds.Limits.{Limits};
 ghost use Rattle.event_core.specs.declared.events.Event.{Event};
+ghost use Rattle.event_core.specs.declared.events.Op.{Op};
+ghost use Rattle.event_core.specs.declared.ids.LockId.{LockId};
 ghost use Rattle.event_core.specs.Refusal.{WellFormed};
 ghost use Rattle.event_core.specs.Verdict.{IsVerdict};
 ghost use Rattle.access_check.specs.Standing.{StandsFor as AccessesStand};
@@ -118,20 +120,8 @@ fn others_ready(parts: &Parts, thread: ThreadId, op: Op, slots: usize) -> bool
     parts.verdicts.has_room(slots)
 }
 
-// Whether it is a release, and there is room for it. There is for each release that was kept room for.
-#[inline(always)]
-fn ready_to_release(parts: &Parts, thread: ThreadId, op: Op, slots: usize) -> bool
-    ensures ready { IsTrue result → HasRoomFor parts.now thread op slots }
-    ensures release { IsKeptRelease parts.now thread op slots → IsTrue result }
-{
-    match op {
-        Op::Release(_) => ready(parts, thread, op, slots),
-        _ => false,
-    }
-}
-
 /// Makes room in all parts for the thread's operation, and in the lists for so many events, and no more than
-/// that. Nothing else changes. Where there is room, as for each release that was kept room for, nothing does.
+/// that. Nothing else changes. Where there is room nothing does, and for a release room was kept.
 #[inline(always)]
 pub(crate) fn prepare(
     parts: &mut Parts,
@@ -141,13 +131,16 @@ pub(crate) fn prepare(
 ) -> Result<(), OutOfMemory>
     requires clocks { IsWithin parts.old.clocks thread op }
     requires width { width_of parts.old.clocks ≡ parts.old.accesses.limits.threads }
+    requires release { (lock : LockId) → op ≡ Op.Release lock → IsKeptRelease parts.old thread op slots }
     ensures grown { HasGrown parts.old parts.new }
     ensures within { GrownFor parts.old parts.new thread op slots }
     ensures ready { OnOk result (HasRoomFor parts.new thread op slots) }
     ensures again { HasRoomFor parts.old thread op slots → IsOk result × (parts.new ≡ parts.old) }
-    ensures release { IsKeptRelease parts.old thread op slots → IsOk result × (parts.new ≡ parts.old) }
+    ensures release { (lock : LockId) → op ≡ Op.Release lock → IsOk result × (parts.new ≡ parts.old) }
 {
-    if ready_to_release(parts, thread, op, slots) {
+    if let Op::Release(_) = op {
+        // Asked for its clause alone: there is room.
+        let _ready = ready(parts, thread, op, slots);
         return Ok(());
     }
     parts.clocks.prepare_for(thread, op)?;
