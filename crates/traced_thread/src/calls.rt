@@ -16,7 +16,7 @@ ghost use Rattle.live_monitor.specs.Tries.{CountsTries};
 ghost use Rattle.traced_thread.specs.Sections.{HoldsLock, HasEnded};
 
 use crate::handle::{TracedThread, take};
-use event_core::{LockId, Refusal, Reply, SiteId, SwapReply, VarId};
+use event_core::{LockId, Op, Refusal, Reply, SiteId, SwapReply, VarId};
 use live_monitor::Tries;
 use log_pass::Name;
 use std::sync::Wait;
@@ -27,7 +27,8 @@ impl<'m, N: Name> TracedThread<'m, N> {
     pub fn load<R: Wait>(&mut self, rt: &R, var: VarId, site: SiteId) -> Result<Reply, Refusal>
         ensures { Answers N.limits (load_by self.old.thread var site) self.old self.new result }
     {
-        let (pass, answer) = self.monitor.load(rt, take(&mut self.pass), var, site);
+        let pass = take(&mut self.pass);
+        let (pass, answer) = self.monitor.perform(rt, pass, Op::Load(var), 0, site);
         self.pass = Some(pass);
         answer
     }
@@ -43,9 +44,8 @@ impl<'m, N: Name> TracedThread<'m, N> {
     ) -> Result<Reply, Refusal>
         ensures { Answers N.limits (store_by self.old.thread var value site) self.old self.new result }
     {
-        let (pass, answer) = self
-            .monitor
-            .store(rt, take(&mut self.pass), var, value, site);
+        let pass = take(&mut self.pass);
+        let (pass, answer) = self.monitor.perform(rt, pass, Op::Store(var), value, site);
         self.pass = Some(pass);
         answer
     }
@@ -73,7 +73,8 @@ impl<'m, N: Name> TracedThread<'m, N> {
     pub fn acquire<R: Wait>(&mut self, rt: &R, lock: LockId, site: SiteId) -> Result<Reply, Refusal>
         ensures { Answers N.limits (acquire_by self.old.thread lock site) self.old self.new result }
     {
-        let (pass, answer) = self.monitor.acquire(rt, take(&mut self.pass), lock, site);
+        let pass = take(&mut self.pass);
+        let (pass, answer) = self.monitor.perform(rt, pass, Op::Acquire(lock), 0, site);
         self.pass = Some(pass);
         answer
     }
@@ -107,7 +108,8 @@ impl<'m, N: Name> TracedThread<'m, N> {
         ensures ended { IfErr result (λ answer.
             HoldsLock N.limits lock self.old → HasEnded self.old.thread self.new answer) }
     {
-        let (pass, answer) = self.monitor.release(rt, take(&mut self.pass), lock, site);
+        let pass = take(&mut self.pass);
+        let (pass, answer) = self.monitor.perform(rt, pass, Op::Release(lock), 0, site);
         self.pass = Some(pass);
         answer
     }

@@ -168,18 +168,16 @@ module _ (e : Event) (l : LockId) (k : Effect) (n : ℕ) {o : Op} {depth : ℕ} 
   inner : (depth ≡ n → ⊥) → effect e (state_of now) ≡ Inner
   inner other = by_depth ∙ ap (λ b. cond b k Inner) (ne_eqb (depths l.0) n (λ q. other (sym seen ∙ q)))
 
-  -- an outer event, and an inner one, that is built again from its parts is due
+  -- an outer event that is built again from its parts is due, and so is an inner one
   pub due_outer : depth ≡ n → IsReady now e.thread e.op → Fits e now → IsDue (record e { op = o }) k now
   due_outer equal = due_rebuilt op (outer equal)
 
-  pub due_inner : (depth ≡ n → ⊥) → IsReady now e.thread e.op → Fits e now
-      → IsDue (record e { op = o }) Inner now
-  due_inner other = due_rebuilt op (inner other)
+  pub due_inner : (depth ≡ n → ⊥) → IsReady now e.thread e.op → Fits e now → IsDue e Inner now
+  due_inner other ready fits = record { effect = inner other; ready = ready; fits = fits }
 
   -- its step is the event's step
   pub outer_step : {new : Parts} → depth ≡ n → IsStepBy (record e { op = o }) k now new → IsStep e now new
   outer_step equal = rebuilt op (outer equal)
 
-  pub inner_step : {new : Parts} → (depth ≡ n → ⊥) → IsStepBy (record e { op = o }) Inner now new
-      → IsStep e now new
-  inner_step other = rebuilt op (inner other)
+  pub inner_step : {new : Parts} → (depth ≡ n → ⊥) → IsStepBy e Inner now new → IsStep e now new
+  inner_step other = stepped (inner other)

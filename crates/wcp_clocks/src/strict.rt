@@ -139,6 +139,7 @@ impl StrictRows {
     }
 
     // The thread's strict clock takes the greater numbers of the release, and counts it. It is one join.
+    #[inline(never)]
     pub(crate) fn take_release(
         &mut self,
         thread: ThreadId,

@@ -44,12 +44,12 @@ impl WcpClocks {
         requires fits { Fits event.now self.old }
         ensures { IsStep event.now self.old self.new }
     {
-        // The same event; so the compiler knows its operation in what follows.
-        let event = &Event {
-            op: Op::Acquire(lock),
-            ..*event
-        };
         if self.hb.depth(event.thread, lock) == 0 {
+            // The same event; so the compiler knows its operation in what follows.
+            let event = &Event {
+                op: Op::Acquire(lock),
+                ..*event
+            };
             self.open(event, lock);
         } else {
             self.count_inner(event);
@@ -63,12 +63,12 @@ impl WcpClocks {
         requires fits { Fits event.now self.old }
         ensures { IsStep event.now self.old self.new }
     {
-        // The same event; so the compiler knows its operation in what follows.
-        let event = &Event {
-            op: Op::Release(lock),
-            ..*event
-        };
         if self.hb.depth(event.thread, lock) == 1 {
+            // The same event; so the compiler knows its operation in what follows.
+            let event = &Event {
+                op: Op::Release(lock),
+                ..*event
+            };
             self.close(event, lock);
         } else {
             self.count_inner(event);
