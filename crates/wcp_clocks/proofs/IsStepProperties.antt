@@ -130,23 +130,6 @@ module _ {e : Event} {k : Effect} {within now : Parts} (is : within ≡ now) whe
   pub seen_step : {new : Parts} → IsStepBy e k within new → IsStepBy e k now new
   seen_step {new} = subst (λ (p : Parts). IsStepBy e k p new) is
 
--- an event that is rebuilt with its own operation is the same one
-rebuilt_is : (e : Event) (o : Op) → e.op ≡ o → e ≡ record e { op = o }
-rebuilt_is e o op = ap (λ (p : Op). record e { op = p }) op
-
--- so its step is too
-module _ {e : Event} {o : Op} {k : Effect} {old : Parts} (op : e.op ≡ o)
-    (told : effect e (state_of old) ≡ k) where
-  -- an event that is built again from its parts is due
-  due_rebuilt : IsReady old e.thread e.op → Fits e old → IsDue (record e { op = o }) k old
-  due_rebuilt ready fits =
-      subst (λ (x : Event). IsDue x k old) (rebuilt_is e o op)
-      (record { effect = told; ready = ready; fits = fits })
-
-  -- the step of the event that is built again is the event's step
-  rebuilt : {new : Parts} → IsStepBy (record e { op = o }) k old new → IsStep e old new
-  rebuilt {new} by = stepped told (subst (λ (x : Event). IsStepBy x k old new) (sym (rebuilt_is e o op)) by)
-
 -- the operation o of the event is outer, and has the effect k, where its thread holds the lock to this depth
 module _ (e : Event) (l : LockId) (k : Effect) (n : ℕ) {o : Op} {depth : ℕ} {within now : Parts}
     (op : e.op ≡ o) (of : (d : ℕ → ℕ) → effect_of d o ≡ cond (nat_eq (d l.0) n) k Inner)
@@ -170,14 +153,17 @@ module _ (e : Event) (l : LockId) (k : Effect) (n : ℕ) {o : Op} {depth : ℕ} 
 
   -- an outer event that is built again from its parts is due, and so is an inner one
   pub due_outer : depth ≡ n → IsReady now e.thread e.op → Fits e now → IsDue (record e { op = o }) k now
-  due_outer equal = due_rebuilt op (outer equal)
+  due_outer equal ready fits =
+      subst (λ (p : Op). IsDue (record e { op = p }) k now) op
+      (record { effect = outer equal; ready = ready; fits = fits })
 
   pub due_inner : (depth ≡ n → ⊥) → IsReady now e.thread e.op → Fits e now → IsDue e Inner now
   due_inner other ready fits = record { effect = inner other; ready = ready; fits = fits }
 
   -- its step is the event's step
   pub outer_step : {new : Parts} → depth ≡ n → IsStepBy (record e { op = o }) k now new → IsStep e now new
-  outer_step equal = rebuilt op (outer equal)
+  outer_step {new} equal by =
+      stepped (outer equal) (subst (λ (p : Op). IsStepBy (record e { op = p }) k now new) (sym op) by)
 
   pub inner_step : {new : Parts} → (depth ≡ n → ⊥) → IsStepBy e Inner now new → IsStep e now new
   inner_step other = stepped (inner other)
