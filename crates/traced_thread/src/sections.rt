@@ -122,7 +122,7 @@ impl<'h, 'm, N: Name, R: Wait> Section<'h, 'm, N, R> {
 
 impl<'m, N: Name> TracedThread<'m, N> {
     /// Begins a section. It is refused while another thread holds the lock, after what the handle had then
-    /// seen. No clause says that it has seen that afterwards; those of `acquire` do.
+    /// seen. No clause says that it has seen that afterwards, or that it made no step; those of `acquire` do.
     #[inline(always)]
     pub fn lock<'h, R: Wait>(
         &'h mut self,
