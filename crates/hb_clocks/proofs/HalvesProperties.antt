@@ -76,8 +76,7 @@ zero_numbers (suc n) = ap (λ rest. 0 ∷ rest) (zero_numbers n)
 
 -- where numbers are 0, so are their halves, as they are read
 half_unused : (numbers half read : List ℕ) (n : ℕ) → length half ≡ length numbers → read ≡ half
-    → ((u : ℕ) → counts_of numbers u ≡ 0 → counts_of half u ≡ 0)
-    → IsUnusedFrom numbers n → IsUnusedFrom read n
+    → ((u : ℕ) → counts_of numbers u ≡ 0 → counts_of half u ≡ 0) → IsUnusedFrom numbers n → IsUnusedFrom read n
 half_unused numbers half read n same is none unused = record {
   within = let width = ap length is in let within = unused.within in omega arith;
   zero = λ u le. ap (λ (xs : List ℕ). counts_of xs u) is ∙ none u (unused.zero u le);

@@ -65,8 +65,7 @@ impl Clock {
 
     // The low halves of the numbers of the threads in use, from thread 0 on. Beyond them each number is 0.
     pub(crate) fn low(&self) -> &[u32]
-        ensures low { (u : ℕ) → counts_of self.now u < 2 ^ 32
-            → counts_of result.now u ≡ counts_of self.now u }
+        ensures low { (u : ℕ) → counts_of self.now u < 2 ^ 32 → counts_of result.now u ≡ counts_of self.now u }
         ensures in_use { (u : ℕ) → 0 < counts_of self.now u → u < length result.now }
         ensures within { length result.now ≤ length self.now }
     {

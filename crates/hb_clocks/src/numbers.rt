@@ -157,8 +157,7 @@ impl Numbers {
     #[inline(always)]
     pub(crate) fn low(&self, count: usize) -> &[u32]
         requires { IsUnusedFrom self.now count }
-        ensures low { (u : ℕ) → counts_of self.now u < 2 ^ 32
-            → counts_of result.now u ≡ counts_of self.now u }
+        ensures low { (u : ℕ) → counts_of self.now u < 2 ^ 32 → counts_of result.now u ≡ counts_of self.now u }
         ensures count { length result.now ≡ count }
     {
         front(&self.low, count)

@@ -5,8 +5,8 @@ use Rattle.hb_clocks.proofs.numbers.Numbers.low.Goals as goal
 
 pub front-requires : goal.front-requires
 front-requires c =
-    low_unused c.self.inside.low.items c.self.inside.high.items c.args.self.now c.deref.result.now
-    c.args.count c.self.invariant.same c.self.view_is c.deref.ensures.value c.requires
+    low_unused c.self.inside.low.items c.self.inside.high.items c.args.self.now c.deref.result.now c.args.count
+    c.self.invariant.same c.self.view_is c.deref.ensures.value c.requires
 
 pub returns-clause-low : goal.returns-clause-low
 returns-clause-low c u few =

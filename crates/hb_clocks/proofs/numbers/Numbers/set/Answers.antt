@@ -7,9 +7,7 @@ pub returns-else-high-gt0 : goal.returns-else-high-gt0
 returns-else-high-gt0 c =
     let numbers = c.self.inside in
     let n : ℕ = c.args.number in
-    let none = c.if-high-gt0.false in
-    let fits = c.ranges.number.fits in
-    let small : n % 4294967296 ≡ n = omega arith in
+    let small : n % 4294967296 ≡ n = (let none = c.if-high-gt0.false in let fits = c.ranges.number.fits in omega arith) in
     ap (λ (l : ℕ). numbers_of (set numbers.low.items c.args.at l) numbers.high.items) small
     ∙ set_short numbers.low.items numbers.high.items c.args.at n c.self.invariant.same
     (c.self.invariant.short c.if-self.false)

@@ -1,5 +1,4 @@
-use Rattle.std.proofs.Common.{◌≡◌, ℕ, ◌<◌, ◌-◌, ◌++◌, List, set, ap, subst, sym, ◌∙◌, arith}
-use Rattle.std.proofs.Common.{length, length-set}
+use Rattle.std.proofs.Common.{◌≡◌, ℕ, ◌<◌, ◌-◌, ◌++◌, List, set, ap, subst, sym, ◌∙◌, arith, length, length-set}
 use Rattle.event_core.proofs.RowsAfterProperties.{row_other}
 use Rattle.hb_clocks.specs.Counts.{counts_of}
 use Rattle.hb_clocks.specs.Releases.{KeptNumbers, raised}
