@@ -1,6 +1,6 @@
 -- Numbers in halves.
 use Rattle.std.proofs.Common.{◌≡◌, ℕ, ◌+◌, ◌<◌, ◌≤◌, ◌⊎◌, inl, inr, List, [], ◌∷◌, length, set}
-use Rattle.std.proofs.Common.{length-set, replicate, suc, zero, refl, sym, subst, ap, ap₂, ◌∙◌, arith}
+use Rattle.std.proofs.Common.{length-set, replicate, suc, zero, refl, sym, ap, ap₂, ◌∙◌, arith}
 use Rattle.std.proofs.lemmas.Bool.{cases_lt}
 use Rattle.std.proofs.lemmas.List.{get_or_past, set-get_or}
 use Rattle.std.proofs.lemmas.Simd.{length-zip2, get_or-zip2}
@@ -74,27 +74,39 @@ pub zero_numbers : (width : ℕ) → numbers_of (replicate width 0) (replicate w
 zero_numbers zero = refl
 zero_numbers (suc n) = ap (λ rest. 0 ∷ rest) (zero_numbers n)
 
--- where numbers are 0, so are their halves, as they are read
-half_unused : (numbers half read : List ℕ) (n : ℕ) → length half ≡ length numbers → read ≡ half
-    → ((u : ℕ) → counts_of numbers u ≡ 0 → counts_of half u ≡ 0) → IsUnusedFrom numbers n → IsUnusedFrom read n
-half_unused numbers half read n same is none unused = record {
-  within = let width = ap length is in let within = unused.within in omega arith;
-  zero = λ u le. ap (λ (xs : List ℕ). counts_of xs u) is ∙ none u (unused.zero u le);
-}
-
+-- where numbers are 0, so are their low halves, as they are read
 pub low_unused : (low high numbers read : List ℕ) (n : ℕ) → length high ≡ length low
     → numbers_of low high ≡ numbers → read ≡ low → IsUnusedFrom numbers n → IsUnusedFrom read n
-low_unused low high numbers read n same is is_read unused =
-    half_unused (numbers_of low high) low read n (sym (count_numbers low high same)) is_read
-    (λ u none. (let number = number_at low high u same in omega arith))
-    (subst (λ xs. IsUnusedFrom xs n) (sym is) unused)
+low_unused low high numbers read n same is is_read unused = record {
+  within =
+      let count = count_numbers low high same in
+      let all = ap length is in
+      let halves = ap length is_read in
+      let w = unused.within in
+      omega arith;
+  zero = λ u le. (let number = number_at low high u same in
+      let all = ap (λ (xs : List ℕ). counts_of xs u) is in
+      let half = ap (λ (xs : List ℕ). counts_of xs u) is_read in
+      let none = unused.zero u le in
+      omega arith);
+}
 
+-- and their high ones
 pub high_unused : (low high numbers read : List ℕ) (n : ℕ) → length high ≡ length low
     → numbers_of low high ≡ numbers → read ≡ high → IsUnusedFrom numbers n → IsUnusedFrom read n
-high_unused low high numbers read n same is is_read unused =
-    half_unused (numbers_of low high) high read n (same ∙ sym (count_numbers low high same)) is_read
-    (λ u none. (let number = number_at low high u same in omega arith))
-    (subst (λ xs. IsUnusedFrom xs n) (sym is) unused)
+high_unused low high numbers read n same is is_read unused = record {
+  within =
+      let count = count_numbers low high same in
+      let all = ap length is in
+      let halves = ap length is_read in
+      let w = unused.within in
+      omega arith;
+  zero = λ u le. (let number = number_at low high u same in
+      let all = ap (λ (xs : List ℕ). counts_of xs u) is in
+      let half = ap (λ (xs : List ℕ). counts_of xs u) is_read in
+      let none = unused.zero u le in
+      omega arith);
+}
 
 -- low halves alone
 pub no_high : (low : List ℕ) → halves_of low [] ≡ counts_of low

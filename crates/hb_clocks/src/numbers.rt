@@ -153,14 +153,15 @@ impl Numbers {
         self.set(at, self.at(at) + 1);
     }
 
-    // The low halves of the first numbers, after which there are zeros.
+    // The low halves of the first numbers.
     #[inline(always)]
     pub(crate) fn low(&self, count: usize) -> &[u32]
-        requires { IsUnusedFrom self.now count }
-        ensures low { (u : ℕ) → counts_of self.now u < 2 ^ 32 → counts_of result.now u ≡ counts_of self.now u }
+        requires { count ≤ length self.now }
+        ensures low { (u : ℕ) → u < count → counts_of self.now u < 2 ^ 32
+            → counts_of result.now u ≡ counts_of self.now u }
         ensures count { length result.now ≡ count }
     {
-        front(&self.low, count)
+        &self.low[..count]
     }
 
     // Takes the greater numbers of a list of as many, which has zeros after the first ones.
