@@ -144,9 +144,7 @@ impl Clock {
     {
         let at = thread.0 as usize;
         self.numbers.set(at, count);
-        if self.used <= at {
-            self.used = at + 1;
-        }
+        self.used = self.used.max(at + 1);
     }
 
     // The number of a thread grows by one.
@@ -157,8 +155,6 @@ impl Clock {
     {
         let at = thread.0 as usize;
         self.numbers.increment(at);
-        if self.used <= at {
-            self.used = at + 1;
-        }
+        self.used = self.used.max(at + 1);
     }
 }

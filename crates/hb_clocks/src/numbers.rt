@@ -136,21 +136,10 @@ impl Numbers {
     {
         let low = self.low[at].wrapping_add(1);
         if low == 0 {
-            self.carry(at);
+            self.set(at, self.at(at) + 1);
         } else {
             self.low[at] = low;
         }
-    }
-
-    // The same, where the low half does not hold it.
-    #[cold]
-    #[inline(never)]
-    fn carry(&mut self, at: usize)
-        requires within { at < length self.old }
-        requires few { counts_of self.old at + 1 < 2 ^ 64 }
-        ensures { self.new ≡ slice_set self.old at (counts_of self.old at + 1) }
-    {
-        self.set(at, self.at(at) + 1);
     }
 
     // The low halves of the first numbers.
