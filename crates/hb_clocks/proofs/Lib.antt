@@ -1,6 +1,5 @@
 pub mod StandsForProperties
 pub mod IsAtMostProperties
-pub mod HalvesProperties
 pub mod HoldsProperties
 pub mod JoinProperties
 pub mod LegalSteps

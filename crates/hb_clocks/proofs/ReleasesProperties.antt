@@ -1,12 +1,12 @@
 -- The numbers of a release's clock just before the release, and with it again.
-use Rattle.std.proofs.Common.{◌≡◌, ℕ, ◌+◌, ◌-◌, ◌<◌, ◌≤◌, ◌⊎◌, List, length, length-set, set, sym, ap, subst, ◌∙◌, arith}
+use Rattle.std.proofs.Common.{◌≡◌, ℕ, ◌+◌, ◌-◌, ◌<◌, ◌≤◌, ◌⊎◌, List, length, set, sym, ap, subst, ◌∙◌, arith}
 use Rattle.std.proofs.lemmas.Bool.{cases_lt, cases_eq}
-use Rattle.std.proofs.lemmas.List.{get_or_past, get_or-set_same, get_or-set_other}
+use Rattle.std.proofs.lemmas.List.{get_or_past, get_or-set_same, get_or-set_other, set-set, set-get_or}
 use mathlib.Core.Logic.{inl, inr}
 use Rattle.event_core.specs.Rows.{bump, with_row}
 use Rattle.event_core.proofs.RowsAfterProperties.{row_same, row_other}
 use Rattle.hb_clocks.specs.Counts.{counts_of}
-use Rattle.hb_clocks.specs.Releases.{before, raised}
+use Rattle.hb_clocks.specs.Releases.{before, lowered, raised}
 use Rattle.hb_clocks.proofs.JoinReleaseLaws.{bump_same, bump_other}
 
 -- a thread that is counted has a number
@@ -40,23 +40,11 @@ before_bumped t f u = go (cases_eq u t)
         omega arith)
     go (inr n) = row_other t (bump t f t - 1) (bump t f) u n ∙ bump_other t f u n
 
--- the low halves of a clock with the number just before the release, which is counted again
-pub raised_before : (t : ℕ) (low : List ℕ) (f : ℕ → ℕ) → t < length low → 0 < f t
-    → ((u : ℕ) → (u ≡ t → ⊥) → counts_of low u ≡ f u)
-    → counts_of (raised t (set low t (f t - 1))) ≡ f
-raised_before t low f within some others i u = go (cases_eq u t) i
-  where
-    added : List ℕ
-    added = set low t (f t - 1)
-
-    go : (u ≡ t) ⊎ (u ≡ t → ⊥) → counts_of (raised t added) u ≡ f u
-    go (inl e) =
-        subst (λ v. counts_of (raised t added) v ≡ f v) (sym e)
-        (let width = length-set low t (f t - 1) in
-        let before : counts_of added t ≡ f t - 1 = get_or-set_same low t (f t - 1) 0 within in
-        let again : counts_of (raised t added) t ≡ counts_of added t + 1
-        = get_or-set_same added t (counts_of added t + 1) 0 (omega arith) in
-        omega arith)
-    go (inr other) =
-        get_or-set_other added t u (counts_of added t + 1) 0 other
-        ∙ get_or-set_other low t u (f t - 1) 0 other ∙ others u other
+-- a clock that was lowered and is raised again is as it was
+pub raised_lowered : (t : ℕ) (ns : List ℕ) → 0 < counts_of ns t → raised t (lowered t ns) ≡ ns
+raised_lowered t ns some =
+    let low : counts_of (lowered t ns) t ≡ counts_of ns t - 1
+    = get_or-set_same ns t (counts_of ns t - 1) 0 (counted_within ns t some) in
+    let own : counts_of (lowered t ns) t + 1 ≡ counts_of ns t = omega arith in
+    set-set ns t (counts_of ns t - 1) (counts_of (lowered t ns) t + 1) ∙ ap (set ns t) own
+    ∙ set-get_or ns t 0

@@ -1,5 +1,4 @@
 pub mod Counts
-pub mod Halves
 pub mod Holds
 pub mod Marks
 pub mod Released

@@ -8,7 +8,10 @@ use Rattle.hb_clocks.specs.Counts.{counts_of}
 abbrev pub before : ℕ → (ℕ → ℕ) → ℕ → ℕ
 before t c = with_row t (c t - 1) c
 
--- the numbers of the release again, in a list of those just before
+-- the same in lists: the numbers just before, and those of the release again
+abbrev pub lowered : ℕ → List ℕ → List ℕ
+lowered t counts = slice_set counts t (counts_of counts t - 1)
+
 abbrev pub raised : ℕ → List ℕ → List ℕ
 raised t counts = slice_set counts t (counts_of counts t + 1)
 

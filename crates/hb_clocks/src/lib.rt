@@ -9,7 +9,6 @@ mod holds;
 mod joined;
 pub mod laws;
 mod mark;
-mod numbers;
 mod release;
 pub mod rows;
 mod search;

@@ -103,12 +103,11 @@ impl ReleaseClocks {
             (counts_of release.now) }
         ensures most { self.old.most ≤ self.new.most }
     {
-        let low = release.low();
-        let before = (release.at(by) - 1) as u32;
+        let counts = release.counts();
         let start = self.numbers.len();
-        push_before(&mut self.numbers, low, by, before);
+        push_before(&mut self.numbers, counts, by);
         ReleasePlace {
-            width: low.len() as u32,
+            width: counts.len() as u32,
             start,
         }
     }

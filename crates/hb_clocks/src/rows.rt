@@ -97,7 +97,8 @@ pub(crate) fn bump_row(rows: &mut [Clock], thread: ThreadId)
     ensures widths { widths_of rows.new ≡ widths_of rows.old }
 {
     let row = &mut rows[thread.0 as usize];
-    row.increment(thread);
+    let count = row.at(thread);
+    row.set(thread, count + 1);
 }
 
 /// Whether the row's clock was made.

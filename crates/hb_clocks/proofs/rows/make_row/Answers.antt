@@ -7,7 +7,7 @@ pub returns-else-width-eq0-clause-same : goal.returns-else-width-eq0-clause-same
 returns-else-width-eq0-clause-same c i t =
     counts_of (c.in_ok-grow_to.ensures.same [] (λ row unmade. search rules) t i)
 
-made : (c : goal.After-drop-index_mut-then-width-eq0)
+made : (c : goal.After-drop-index_mut)
     → Remade c.args.width c.args.at c.args.rows.now.items
     (set c.grow_to.new.list.items c.args.at c.in_ok-rows.field-0)
 made c =

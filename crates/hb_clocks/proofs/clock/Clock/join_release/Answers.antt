@@ -14,10 +14,10 @@ returns-clause-greater c =
     let t : ℕ = c.args.release.now.by.0 in
     let g : ℕ → ℕ = counts_of c.args.release.now.before.now in
     c.count_release.ensures.greater
-    ∙ ap₂ (counting (counts_of c.take_short.new.self)) (ap (λ (u : ThreadId). u.0) c.by-by.ensures.thread)
+    ∙ ap₂ (counting (counts_of c.raise_before.new.self)) (ap (λ (u : ThreadId). u.0) c.by-by.ensures.thread)
     (ap₂ (λ (xs : List ℕ) (u : ThreadId). counts_of xs u.0) c.counts_before-before.ensures
     c.by-by.ensures.thread)
     ∙ ap (λ (f : ℕ → ℕ). counting f t (g t))
-    (c.take_short.ensures.greater
+    (c.raise_before.ensures.greater
     ∙ ap (λ (xs : List ℕ). join (counts_of c.args.self.now) (counts_of xs)) c.counts_before-before.ensures)
     ∙ release_joined t (counts_of c.args.self.now) g

@@ -1,34 +1,42 @@
-use Rattle.std.proofs.Common.{◌≡◌, ℕ, ◌<◌, ◌-◌, ◌++◌, List, set, ap, subst, sym, ◌∙◌, arith, length, length-set}
-use Rattle.event_core.proofs.RowsAfterProperties.{row_other}
+use Rattle.std.proofs.Common.{◌≡◌, ℕ, ◌<◌, ◌-◌, ◌++◌, ap, sym, subst, ◌∙◌, arith, length, length-set}
 use Rattle.hb_clocks.specs.Counts.{counts_of}
-use Rattle.hb_clocks.specs.Releases.{KeptNumbers, raised}
-use Rattle.hb_clocks.proofs.ReleasesProperties.{counted_within, raised_before}
+use Rattle.hb_clocks.specs.Releases.{KeptNumbers, before, lowered}
+use Rattle.hb_clocks.proofs.ReleasesProperties.{counted_within, raised_lowered}
 use Rattle.hb_clocks.proofs.release.ReleaseClocks.push.Goals as goal
 
-pub at-requires : goal.at-requires
-at-requires c = counted_within c.args.release.now c.args.by.0 c.requires.counted
+pub push_before-requires-clause-own : goal.push_before-requires-clause-own
+push_before-requires-clause-own c =
+    counted_within c.counts-counts.result.now c.args.by.0
+    (subst (λ (f : ℕ → ℕ). 0 < f c.args.by.0) (sym c.counts-counts.ensures.counts) c.requires.counted)
+
+pub push_before-requires-clause-counted : goal.push_before-requires-clause-counted
+push_before-requires-clause-counted c =
+    subst (λ (f : ℕ → ℕ). 0 < f c.args.by.0) (sym c.counts-counts.ensures.counts) c.requires.counted
+
+pub push_before-requires-clause-few : goal.push_before-requires-clause-few
+push_before-requires-clause-few c =
+    subst (λ (f : ℕ → ℕ). (u : ℕ) → before c.args.by.0 f u < 4294967296) (sym c.counts-counts.ensures.counts)
+    c.requires.few
 
 pub returns-clause-added : goal.returns-clause-added
 returns-clause-added c =
     let t : ℕ = c.args.by.0 in
-    let f : ℕ → ℕ = counts_of c.args.release.now in
-    let low : List ℕ = c.low-low.result.now in
-    let within : t < length low = c.low-low.ensures.in_use t c.requires.counted in
-    let others : (u : ℕ) → (u ≡ t → ⊥) → counts_of low u ≡ f u
-    = λ u other. c.low-low.ensures.low u
-    (subst (λ n. n < 4294967296) (row_other t (f t - 1) f u other) (c.requires.few u)) in
-    let same : length (set low t (c.at.result - 1)) ≡ length low = length-set low t (c.at.result - 1) in
-    let used = c.low-low.ensures.within in
+    let counts = c.counts-counts.result.now in
+    let counted : 0 < counts_of counts t
+    = subst (λ (f : ℕ → ℕ). 0 < f t) (sym c.counts-counts.ensures.counts) c.requires.counted in
+    let within : t < length counts = counted_within counts t counted in
+    let same : length (lowered t counts) ≡ length counts = length-set counts t (counts_of counts t - 1) in
+    let used = c.counts-counts.ensures.within in
+    let numbers = c.self.inside.numbers.ok.0 in
     let len = c.len-start.ensures in
     let first = ap (λ (k : KeptNumbers). length k.numbers) c.self.view_is in
     record {
-      added = set low t (c.at.result - 1);
+      added = lowered t counts;
       numbers = c.push_before.ensures.items
-          ∙ ap (λ (k : KeptNumbers). k.numbers ++ set low t (c.at.result - 1)) c.self.view_is;
+          ∙ ap (λ (k : KeptNumbers). k.numbers ++ lowered t counts) c.self.view_is;
       start = omega arith;
       count = sym same;
       marked = omega arith;
-      release = ap (λ (n : ℕ). counts_of (raised t (set low t (n - 1)))) c.at.ensures
-          ∙ raised_before t low f within c.requires.counted others;
+      release = ap counts_of (raised_lowered t counts counted) ∙ c.counts-counts.ensures.counts;
       within = omega arith;
     }

@@ -1,7 +1,7 @@
 use Rattle.std.proofs.Common.{◌∙◌, arith}
 use Rattle.std.proofs.lemmas.List.{length-take-le}
 use Rattle.hb_clocks.proofs.JoinProperties.{front_joined}
-use Rattle.hb_clocks.proofs.numbers.take_greater.Goals as goal
+use Rattle.hb_clocks.proofs.clock.take_greater.Goals as goal
 
 pub returns : goal.returns
 returns c =

@@ -1,5 +1,5 @@
 use Rattle.std.proofs.Common.{◌≡◌, ℕ, ◌<◌, ◌≤◌, get_or, max}
-use Rattle.hb_clocks.proofs.numbers.take_greater.Given as goal
+use Rattle.hb_clocks.proofs.clock.take_greater_of_short.Given as goal
 
 -- below u the numbers are joined, and from u on they are as they were
 abbrev pub invariant-loop-u : goal.invariant-loop-u
